@@ -1,0 +1,5 @@
+pub mod Faults
+pub mod Texts
+pub mod Pieces
+pub mod Room
+pub mod Longest
