@@ -66,14 +66,14 @@ module _ {V : Type 0} {m : Model V} (laws : Ordered m) (terms : Terms) (places :
       → (place-in m terms places before r (bits - shift r) .reached ≡ true) × ((gs : List ℕ) → WayBack m rs (prior ∷ rest) (r ∷ gs) (bits - shift r) (place-in m terms places before r (bits - shift r) .cost) → WayBack m rs (block ∷ prior ∷ rest) (grade ∷ r ∷ gs) bits cost)
   back r r-below found lowest =
       let best = stands laws terms places block (prior ∷ rest) here column grade bits below through in
-      let leads = found (λ no. ∥∥₁-elim (best .kept reached) ⊥-prop (λ way. let s = some-leads way in no (s .0) (s .1) (s .2))) in
+      let leads = found (λ no. ∥∥₁-elim (best .kept reached .some) ⊥-prop (λ way. let s = some-leads way in no (s .0) (s .1) (s .2))) in
       let left = bits - shift r in
       let v = place-in m terms places before r left .cost in
       let kept : Kept m rs (prior ∷ rest) r left v = best-kept laws rs (stands laws terms places prior rest before earlier-column r left r-below (omega arith)) (leads .1) in
       let e : left + rs .charge r grade + offer .rate ≡ bits = omega (arith, leads .0) in
       let least : NoDearer m cost (m .joined v (offer .distortion)) = ranked m cost (m .joined v (offer .distortion)) (λ no. ∥∥₁-elim (kept .some) ⊥-prop (λ way.
       let all : Choice m rs (block ∷ prior ∷ rest) (grade ∷ r ∷ way .0) (left + rs .charge r grade + offer .rate) (m .joined v (offer .distortion)) = next (way .1) below offered in
-      no (best .least reached _ (r ∷ way .0, subst (λ x. Choice m rs (block ∷ prior ∷ rest) (grade ∷ r ∷ way .0) x (m .joined v (offer .distortion))) e all)))) in
+      no (best .kept reached .least _ (r ∷ way .0, subst (λ x. Choice m rs (block ∷ prior ∷ rest) (grade ∷ r ∷ way .0) x (m .joined v (offer .distortion))) e all)))) in
       let gives : Gives m rs (prior ∷ rest) grade bits cost offer r left v = record { falls = e; kept = kept; alike = (leads .2, least) } in
       (leads .1, λ gs way. back-to (best-kept laws rs best reached) offered gives (λ lower l u g. ⊎-elim (λ lt. absurd (gives-leads lower l u g (lowest lower lt))) (λ le. le) (cases-lt lower r)) way)
 
@@ -92,4 +92,4 @@ stepped {m = m} laws terms places block prior rest n grade bits offer cost base 
 -- a block that does not offer the grade has no reached place there
 pub unoffered : {V : Type 0} {m : Model V} (laws : Ordered m) (terms : Terms) (places : List (Place V)) (block prior : Block) (rest : List Block) (n grade bits r left : ℕ) → offer-at block grade ≡ None → grade < terms .grades → bits < width-of terms → Back m terms places block prior rest n grade bits r left
 unoffered {m = m} laws terms places block prior rest n grade bits r left nothing below through column earlier reached =
-    absurd (∥∥₁-elim (stands laws terms places block (prior ∷ rest) (n * size-of terms) column grade bits below through .kept reached) ⊥-prop (none-offered m (rules-of terms) block (prior ∷ rest) grade bits _ nothing))
+    absurd (∥∥₁-elim (stands laws terms places block (prior ∷ rest) (n * size-of terms) column grade bits below through .kept reached .some) ⊥-prop (none-offered m (rules-of terms) block (prior ∷ rest) grade bits _ nothing))

@@ -11,7 +11,7 @@ use native.Mathlib.Nat.{suc-mul}
 use lib.ListN.{length, getD, set, take}
 use Rattle.std.specs.declared.option.Option.the-variants.{Some, None}
 use Rattle.costs.specs.Model.{Model, Ordered}
-use Rattle.planner.specs.Layout.{Outside, Column, Row, Newest, Columns, width-of, size-of}
+use Rattle.planner.specs.Layout.{Outside, Column, PlaceRow, Newest, Columns, width-of, size-of}
 use Rattle.terms.specs.Choice.{Block, Choice, offer-at}
 use Rattle.terms.specs.Choice.Choice.{empty, next}
 use Rattle.terms.specs.Rules.{Rules, charge-into, rules-of}
@@ -25,15 +25,15 @@ use Rattle.terms.proofs.Counts.{newest-first}
 use Rattle.planner.proofs.Rows.{row-below, column-before}
 
 module _ {V : Type 0} (m : Model V) (terms : Terms) (old new : List (Place V)) where
-  pub none-right : (block : Block) (blocks : List Block) (grade at w : ℕ) → w ≡ width-of terms → offer-at block grade ≡ None → ((b : ℕ) → b < w → getD new (at + b) (unreached m) ≡ unreached m) → Row m terms (block ∷ blocks) grade at new
+  pub none-right : (block : Block) (blocks : List Block) (grade at w : ℕ) → w ≡ width-of terms → offer-at block grade ≡ None → ((b : ℕ) → b < w → getD new (at + b) (unreached m) ≡ unreached m) → PlaceRow m terms (block ∷ blocks) grade at new
   none-right block blocks grade at w w-is nothing clear b h =
       subst (λ p. Best m (Costs m (rules-of terms) (block ∷ blocks) grade b) p) (sym (clear b (omega (arith, w-is)))) (best-none m (λ v. none-offered m (rules-of terms) block blocks grade b v nothing))
 
-  pub first-right-of : (block : Block) (blocks : List Block) (grade at : ℕ) (offer : Offer) → length blocks ≡ 0 → offer-at block grade ≡ Some offer → ((block : Block) → offer-at block grade ≡ Some offer → Row m terms (block ∷ []) grade at new) → Row m terms (block ∷ blocks) grade at new
+  pub first-right-of : (block : Block) (blocks : List Block) (grade at : ℕ) (offer : Offer) → length blocks ≡ 0 → offer-at block grade ≡ Some offer → ((block : Block) → offer-at block grade ≡ Some offer → PlaceRow m terms (block ∷ []) grade at new) → PlaceRow m terms (block ∷ blocks) grade at new
   first-right-of block [] grade at offer len offered row = row block offered
   first-right-of block (x ∷ xs) grade at offer len offered row = absurd (omega arith)
 
-  pub next-right : (standing base size grade at : ℕ) (offer : Offer) → base ≡ standing * size-of terms → size ≡ size-of terms → (standing ≡ 0 → ⊥) → ((block prior : Block) (blocks : List Block) → offer-at block grade ≡ Some offer → Column m terms (prior ∷ blocks) (base - size) old → Row m terms (block ∷ prior ∷ blocks) grade at new) → (block : Block) (blocks : List Block) → offer-at block grade ≡ Some offer → length blocks ≡ standing → Newest m terms blocks old → Row m terms (block ∷ blocks) grade at new
+  pub next-right : (standing base size grade at : ℕ) (offer : Offer) → base ≡ standing * size-of terms → size ≡ size-of terms → (standing ≡ 0 → ⊥) → ((block prior : Block) (blocks : List Block) → offer-at block grade ≡ Some offer → Column m terms (prior ∷ blocks) (base - size) old → PlaceRow m terms (block ∷ prior ∷ blocks) grade at new) → (block : Block) (blocks : List Block) → offer-at block grade ≡ Some offer → length blocks ≡ standing → Newest m terms blocks old → PlaceRow m terms (block ∷ blocks) grade at new
   next-right standing base size grade at offer base-is size-is some rows block [] offered len newest = absurd (some (omega arith))
   next-right standing base size grade at offer base-is size-is some rows block (prior ∷ blocks) offered len newest =
       let place : length blocks * size-of terms ≡ base - size = omega (arith, suc-mul (length blocks) (size-of terms), ap (λ x. x * size-of terms) len, base-is, size-is) in
@@ -43,7 +43,7 @@ module _ {V : Type 0} (m : Model V) (terms : Terms) (old new : List (Place V)) w
   newest-before [] base size below outside newest = newest
   newest-before (block ∷ blocks) base size below outside newest = column-before m terms (block ∷ blocks) (length blocks * size-of terms) base size old new (omega (arith, suc-mul (length blocks) (size-of terms))) outside newest
 
-  pub row-before : (blocks : List Block) (grade k at w : ℕ) → k + width-of terms ≤ at → Outside m at w old new → Row m terms blocks grade k old → Row m terms blocks grade k new
+  pub row-before : (blocks : List Block) (grade k at w : ℕ) → k + width-of terms ≤ at → Outside m at w old new → PlaceRow m terms blocks grade k old → PlaceRow m terms blocks grade k new
   row-before blocks grade k at w below outside row b h = subst (λ p. Best m (Costs m (rules-of terms) blocks grade b) p) (sym (outside .before (k + b) (omega arith))) (row b h)
 
 module _ {V : Type 0} (m : Model V) (terms : Terms) (start old new : List (Place V)) where

@@ -39,7 +39,7 @@ module _ {V : Type 0} {m : Model V} (laws : Ordered m) (terms : Terms) (places :
   pub placed : (grade bits : ℕ) (cost : V) → grade < terms .grades → bits < width-of terms → Costs m rs (block ∷ blocks) grade bits cost → (place-in m terms places base grade bits .reached ≡ true) × NoDearer m (place-in m terms places base grade bits .cost) cost
   placed grade bits cost g b way =
       let best = stands grade bits g b in
-      ⊎-elim (λ yes. (yes, best .least yes cost way)) (λ un. absurd (best .marked un cost way)) (cases-bool (place-in m terms places base grade bits .reached))
+      ⊎-elim (λ yes. (yes, best .kept yes .least cost way)) (λ un. absurd (best .marked un cost way)) (cases-bool (place-in m terms places base grade bits .reached))
 
   within : (bound : V) (grades : List ℕ) (bits : ℕ) (cost : V) → Choice m rs (block ∷ blocks) grades bits cost → bits < width-of terms → NoDearer m cost bound → (grade : ℕ) × (grade < terms .grades) × Within m terms places base bound grade bits
   within bound [] bits cost ch b cheap = none ch
@@ -58,7 +58,7 @@ module _ {V : Type 0} {m : Model V} (laws : Ordered m) (terms : Terms) (places :
   pub fewest-is : (bound : V) (r : Option ℕ) → FirstWithin m terms places base bound r → FewestIs bound r
   fewest-is bound (Some bits) (through, (grade, below, (reached, cheap)), none) = record {
     through = omega arith;
-    some = ∥∥₁-map (stands grade bits below through .kept reached) (λ way. (grade ∷ way .0, place-in m terms places base grade bits .cost, way .1, cheap));
+    some = ∥∥₁-map (stands grade bits below through .kept reached .some) (λ way. (grade ∷ way .0, place-in m terms places base grade bits .cost, way .1, cheap));
     fewest = λ grades b cost ch low. ⊎-elim (λ lt. absurd (let w = within bound grades b cost ch (omega arith) low in none b (w .0) lt (w .1) (w .2))) (λ le. le) (cases-lt b bits);
   }
   fewest-is bound None none = λ grades b cost ch le low. (let w = within bound grades b cost ch (omega arith) low in none b (w .0) (omega arith) (w .1) (w .2))

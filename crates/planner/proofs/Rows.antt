@@ -12,7 +12,7 @@ use lib.ListN.{length, getD, set}
 use Rattle.std.proofs.shelf.Lists.{getD-set-same, getD-set-other}
 use Rattle.std.specs.declared.option.Option.the-variants.{Some, None}
 use Rattle.costs.specs.Model.{Model, Ordered}
-use Rattle.planner.specs.Layout.{Outside, Column, Row, width-of}
+use Rattle.planner.specs.Layout.{Outside, Column, PlaceRow, width-of}
 use Rattle.terms.specs.Choice.{Block, offer-at}
 use Rattle.terms.specs.Rules.{Rules, rules-of, charge-into}
 use Rattle.trellis.proofs.Bests.{best-same, best-one, best-none, no-dearer-self, relax-best}
@@ -92,7 +92,7 @@ module _ {V : Type 0} {m : Model V} (laws : Ordered m) (terms : Terms) (block : 
 pub first-right : {V : Type 0} {m : Model V} (laws : Ordered m) (terms : Terms) (block : Block) (grade : ℕ) (offer : Offer) → grade < terms .grades → offer-at block grade ≡ Some offer → (at w bits : ℕ) (new : List (Place V)) → w ≡ width-of terms → bits ≡ charge-into (rules-of terms) None grade + offer .rate
     → ((b : ℕ) → b < w → (b ≡ bits → ⊥) → getD new (at + b) (unreached m) ≡ unreached m)
     → (bits < w → getD new (at + bits) (unreached m) ≡ record { reached = true; cost = m .joined (m .start) (offer .distortion) })
-    → Row m terms (block ∷ []) grade at new
+    → PlaceRow m terms (block ∷ []) grade at new
 first-right {m = m} laws terms block grade offer below offered at w bits new w-is bits-is others here b h =
     let rs = rules-of terms in
     let cost = m .joined (m .start) (offer .distortion) in

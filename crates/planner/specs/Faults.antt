@@ -22,14 +22,16 @@ planner-number NoneWithin = 36
 abbrev pub planner-layer : PlannerFault → Layer
 planner-layer _ = Planner
 
--- adding a block of these offers where so many stand, among so many places: 64 stand; the places are too few
+-- adding a block of these offers where so many places are lent and so many blocks stand: 64 stand; the places are too few. No
+-- case looks at the offers yet.
 abbrev pub add-row : Terms → ℕ → ℕ → Block → Row
-add-row terms room standing offers = (leb 64 standing, 30) ∷ (ltb room ((standing + 1) * (terms .grades * (terms .ceiling + 1))), 31) ∷ []
+add-row terms lent standing offers = (leb 64 standing, 30) ∷ (ltb lent ((standing + 1) * (terms .grades * (terms .ceiling + 1))), 31) ∷ []
 
 -- taking the last block back: none stands
 abbrev pub take-back-row : ℕ → Row
 take-back-row standing = (eqb standing 0, 32) ∷ []
 
--- planning before anything is searched: the budget is over the ceiling; the grade list is shorter than the standing blocks
+-- planning, before anything is searched: the budget is over the ceiling; the grade list is shorter than the standing blocks.
+-- 35 is no case of a row, as no test says it: it stands in `Planned`, and 36 in `FewestOf`
 abbrev pub plan-row : Terms → ℕ → ℕ → ℕ → Row
 plan-row terms standing budget entries = (ltb (terms .ceiling) budget, 33) ∷ (ltb entries standing, 34) ∷ []

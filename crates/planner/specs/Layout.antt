@@ -8,7 +8,7 @@ use Rattle.terms.specs.declared.terms.Terms.{Terms}
 use Rattle.terms.specs.Rules.{rules-of}
 use Rattle.terms.specs.Choice.{Block}
 use Rattle.trellis.specs.declared.place.Place.{Place}
-use Rattle.trellis.specs.Places.{Right, unreached}
+use Rattle.trellis.specs.Places.{Best, Costs, unreached}
 
 -- the places of one grade: one for each number of bits through the ceiling
 abbrev pub width-of : Terms → ℕ
@@ -28,12 +28,12 @@ pub record Outside {V : Type 0} (m : Model V) (at width : ℕ) (old new : List (
   pub after : (k : ℕ) → at + width ≤ k → getD new k (unreached m) ≡ getD old k (unreached m)
 
 -- the row of a grade of the newest block, which lies at `at`, holds what it should
-abbrev pub Row : {V : Type 0} → Model V → Terms → List Block → ℕ → ℕ → List (Place V) → Type 0
-Row m terms blocks grade at places = (bits : ℕ) → bits < width-of terms → Right m (rules-of terms) blocks grade bits (getD places (at + bits) (unreached m))
+abbrev pub PlaceRow : {V : Type 0} → Model V → Terms → List Block → ℕ → ℕ → List (Place V) → Type 0
+PlaceRow m terms blocks grade at places = (bits : ℕ) → bits < width-of terms → Best m (Costs m (rules-of terms) blocks grade bits) (getD places (at + bits) (unreached m))
 
 -- the column of the newest block, which lies at `at`
 abbrev pub Column : {V : Type 0} → Model V → Terms → List Block → ℕ → List (Place V) → Type 0
-Column m terms blocks at places = (grade : ℕ) → grade < terms .grades → Row m terms blocks grade (at + grade * width-of terms) places
+Column m terms blocks at places = (grade : ℕ) → grade < terms .grades → PlaceRow m terms blocks grade (at + grade * width-of terms) places
 
 -- the column of the newest block, where there is one; blocks follow one another from the first place on
 abbrev pub Newest : {V : Type 0} → Model V → Terms → List Block → List (Place V) → Type 0

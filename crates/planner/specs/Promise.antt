@@ -25,8 +25,10 @@ abbrev pub Gave : {T : Type 0} → Result T PlannerFault → (T → Type 0) → 
 Gave (Ok answer) Such = Such answer
 Gave (Err _) Such = ⊥
 
--- of the standing blocks, newest first, and the most blocks that ever stood; of the places, the budget and the grade list, before
--- and after; and of the two answers
+-- The arguments: the kind's model and the terms; the standing blocks, newest first, and the most blocks that stood at any time,
+-- both counted from the calls; the places as lent and at the end; the budget and the bound; the grade list as lent and at the end;
+-- and the two answers. The grade list has the first block first, the statements the newest, so it is read in reverse. A lent slice
+-- keeps its length. Nothing is said of places that belong to no standing block but did to one that was taken back.
 pub record Promise {V : Type 0} (m : Model V) (terms : Terms) (blocks : List Block) (most : ℕ) (places-before places-after : List (Place V)) (budget : ℕ) (bound : V) (grades-before grades-after : List ℕ) (plan : Result (ℕ × V) PlannerFault) (fewest : Result ℕ PlannerFault) : Type 0 where
   -- 33 and 34 in their cases and in that order, else a plan or 35; a refusal leaves the grade list, a plan its later entries
   pub plan-frame : PlanFrame (plan-row terms (length blocks) budget (length grades-before)) (length blocks) grades-before grades-after plan
@@ -42,7 +44,7 @@ pub record Promise {V : Type 0} (m : Model V) (terms : Terms) (blocks : List Blo
   -- 36 exactly when no choice through the ceiling is within the bound, and no other refusal
   pub none-within : (refusal planner-number fewest ≡ Some 36) ↔ NoneWithin m (rules-of terms) (terms .ceiling) blocks bound
   pub only-36 : (fault : PlannerFault) → fewest ≡ Err fault → refusal planner-number fewest ≡ Some 36
-  -- the places of the standing blocks hold what they should
+  -- the places of the standing blocks hold what they should: each is `Best` of the choices that end there
   pub standing-places : Columns m terms blocks places-after
   -- places that no block ever had are as they were handed in
   pub other-places : (k : ℕ) → most * size-of terms ≤ k → getD places-after k (unreached m) ≡ getD places-before k (unreached m)

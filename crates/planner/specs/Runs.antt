@@ -22,10 +22,10 @@ abbrev pub unless : Option ℕ → List Block → List Block → List Block
 unless None new old = new
 unless (Some _) new old = old
 
-module _ {S V : Type 0} (means : S → ℕ → Option Offer) (terms : Terms) (room : ℕ) where
+module _ {S V : Type 0} (means : S → ℕ → Option Offer) (terms : Terms) (lent : ℕ) where
   -- the standing blocks after one call, newest first; a refused call and a question leave them
   abbrev pub after-call : Call S V → List Block → List Block
-  after-call (Add source) blocks = unless (first (add-row terms room (length blocks) (offers-below (means source) (terms .grades)))) (offers-below (means source) (terms .grades) ∷ blocks) blocks
+  after-call (Add source) blocks = unless (first (add-row terms lent (length blocks) (offers-below (means source) (terms .grades)))) (offers-below (means source) (terms .grades) ∷ blocks) blocks
   after-call TakeBack blocks = unless (first (take-back-row (length blocks))) (without-newest blocks) blocks
   after-call (Ask _) blocks = blocks
 

@@ -4,7 +4,7 @@ ghost use mathlib.Core.Path.{_≡_};
 ghost use mathlib.Core.List.{List, _∷_};
 ghost use lib.ListN.{length};
 ghost use Rattle.terms.specs.Choice.{Block as Offers, offer-at};
-ghost use Rattle.planner.specs.Layout.{size-of, width-of, Outside, Column, Row, Newest};
+ghost use Rattle.planner.specs.Layout.{size-of, width-of, Outside, Column, PlaceRow, Newest};
 use crate::row::clear_row;
 use crate::row::first_row;
 use crate::row::reach_row;
@@ -31,7 +31,7 @@ fn write_row<K: Kind>(
     requires at { ⌜ at ≡ base + grade * width-of (now terms) ⌝ }
     requires fits { ⌜ base + size-of (now terms) ≤ length (now places) ⌝ }
     ensures outside { λ _. ⌜ Outside model at (width-of (now (terms .entry))) (now (places .entry)) (now (places .exit)) ⌝ }
-    ensures row { λ _. ⌜ ((block : Offers) (blocks : List Offers) → offer-at block grade ≡ offer → length blocks ≡ standing → Newest model (now (terms .entry)) blocks (now (places .entry)) → Row model (now (terms .entry)) (block ∷ blocks) grade at (now (places .exit))) ⌝ }
+    ensures row { λ _. ⌜ ((block : Offers) (blocks : List Offers) → offer-at block grade ≡ offer → length blocks ≡ standing → Newest model (now (terms .entry)) blocks (now (places .entry)) → PlaceRow model (now (terms .entry)) (block ∷ blocks) grade at (now (places .exit))) ⌝ }
 {
     match offer {
         None => clear_row(places, at, width(terms)),

@@ -23,7 +23,8 @@ use offers::Source;
 use terms::Terms;
 use trellis::Place;
 
-// A planner over lent places. It holds no cost beside them.
+// A planner over lent places. It holds no cost beside them. The clauses `same` say that the slice is still the caller's own, so
+// that the caller knows what its memory holds when the planner ends.
 #[derive(Drop)]
 pub struct Planner<'a, K: Kind> {
     tables: Tables,

@@ -7,7 +7,7 @@ ghost use Rattle.std.specs.declared.option.Option.the-variants.{Some, None};
 ghost use Rattle.terms.specs.Rules.{rules-of, charge-into};
 ghost use Rattle.terms.specs.Choice.{Block, offer-at};
 ghost use Rattle.trellis.specs.Places.{Best, relaxed, unreached};
-ghost use Rattle.planner.specs.Layout.{width-of, Outside, Column, Row};
+ghost use Rattle.planner.specs.Layout.{width-of, Outside, Column, PlaceRow};
 use crate::sizes::width;
 use costs::Kind;
 use offers::Offer;
@@ -61,7 +61,7 @@ pub(crate) fn reach_row<K: Kind>(
     requires apart { ⌜ before + now terms .grades * width-of (now terms) ≤ at ⌝ }
     requires fits { ⌜ at + width-of (now terms) ≤ length (now places) ⌝ }
     ensures outside { λ _. ⌜ Outside model at (width-of (now (terms .entry))) (now (places .entry)) (now (places .exit)) ⌝ }
-    ensures row { λ _. ⌜ ((block : Block) (prior : Block) (blocks : List Block) → offer-at block grade ≡ Some offer → Column model (now (terms .entry)) (prior ∷ blocks) before (now (places .entry)) → Row model (now (terms .entry)) (block ∷ prior ∷ blocks) grade at (now (places .exit))) ⌝ }
+    ensures row { λ _. ⌜ ((block : Block) (prior : Block) (blocks : List Block) → offer-at block grade ≡ Some offer → Column model (now (terms .entry)) (prior ∷ blocks) before (now (places .entry)) → PlaceRow model (now (terms .entry)) (block ∷ prior ∷ blocks) grade at (now (places .exit))) ⌝ }
 {
     let grades = terms.grades() as usize;
     let width = width(terms);
@@ -93,7 +93,7 @@ pub(crate) fn first_row<K: Kind>(
     requires grade { ⌜ grade < now terms .grades ⌝ }
     requires fits { ⌜ at + width-of (now terms) ≤ length (now places) ⌝ }
     ensures outside { λ _. ⌜ Outside model at (width-of (now (terms .entry))) (now (places .entry)) (now (places .exit)) ⌝ }
-    ensures row { λ _. ⌜ ((block : Block) → offer-at block grade ≡ Some offer → Row model (now (terms .entry)) (block ∷ []) grade at (now (places .exit))) ⌝ }
+    ensures row { λ _. ⌜ ((block : Block) → offer-at block grade ≡ Some offer → PlaceRow model (now (terms .entry)) (block ∷ []) grade at (now (places .exit))) ⌝ }
 {
     let width = width(terms);
     clear_row(places, at, width);

@@ -19,7 +19,7 @@ pub struct Answers<K> {
     pub fewest: Result<u32, PlannerFault>,
 }
 
-// Asks a question and lets the answer go. A plan goes into a list of its own, of which 64 entries are used at most.
+// Asks a question and discards the answer. A plan goes into a list of its own, of which 64 entries are used at most.
 fn ask<K: Kind>(planner: &Planner<K>, question: &Question<K>) {
     match question {
         Question::Plan { budget, entries } => {
@@ -33,7 +33,7 @@ fn ask<K: Kind>(planner: &Planner<K>, question: &Question<K>) {
     }
 }
 
-// Opens a planner over the places, makes the calls, refused ones counted in, and then asks for the plan at the budget into the
+// Opens a planner over the places, makes the calls, refused ones included, and then asks for the plan at the budget into the
 // grade list and for the fewest bits within the bound.
 pub fn replay<K: Kind, S: Source>(
     terms: Terms,

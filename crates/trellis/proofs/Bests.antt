@@ -17,8 +17,7 @@ true-false e = absurd (grind arith)
 module _ {V : Type 0} (m : Model V) where
   pub best-same : {P Q : V → Type 0} {p : Place V} → ((v : V) → P v → Q v) → ((v : V) → Q v → P v) → Best m P p → Best m Q p
   best-same there back b = record {
-    kept = λ r. ∥∥₁-map (b .kept r) (there _);
-    least = λ r o q. b .least r o (back o q);
+    kept = λ r. record { some = ∥∥₁-map (b .kept r .some) (there _); least = λ o q. b .kept r .least o (back o q) };
     marked = λ r o q. b .marked r o (back o q);
     cleared = b .cleared;
   }
@@ -26,7 +25,6 @@ module _ {V : Type 0} (m : Model V) where
   pub best-none : {P : V → Type 0} → ((v : V) → P v → ⊥) → Best m P (unreached m)
   best-none never = record {
     kept = λ r. false-true r;
-    least = λ r. false-true r;
     marked = λ _. never;
     cleared = λ _. refl;
   }
@@ -34,8 +32,7 @@ module _ {V : Type 0} (m : Model V) where
   -- the one cost of a set
   pub best-one : {P : V → Type 0} (cost : V) → P cost → ((v : V) → P v → v ≡ cost) → NoDearer m cost cost → Best m P (record { reached = true; cost = cost })
   best-one cost here only self = record {
-    kept = λ _. ∣ here ∣₁;
-    least = λ _ v p. subst (λ x. NoDearer m cost x) (sym (only v p)) self;
+    kept = λ _. record { some = ∣ here ∣₁; least = λ v p. subst (λ x. NoDearer m cost x) (sym (only v p)) self };
     marked = λ r. true-false r;
     cleared = λ r. true-false r;
   }
@@ -59,26 +56,22 @@ module _ {V : Type 0} {m : Model V} (laws : Ordered m) (P Q : V → Type 0) (d :
 
   cases : (sr tr : Bool) (sc tc : V) (rk : Bool) → m .ranks tc (m .joined sc d) ≡ rk → Best m P (record { reached = tr; cost = tc }) → Best m Q (record { reached = sr; cost = sc }) → Best m (Either m P (Joined m d Q)) (cond sr (cond (tr && rk) (record { reached = tr; cost = tc }) (record { reached = true; cost = m .joined sc d })) (record { reached = tr; cost = tc }))
   cases false tr sc tc rk e t s = record {
-    kept = λ r. ∥∥₁-map (t .kept r) inl;
-    least = λ r v. ⊎-elim (t .least r v) (λ j. absurd (s .marked refl (j .0) (j .1)));
+    kept = λ r. record { some = ∥∥₁-map (t .kept r .some) inl; least = λ v. ⊎-elim (t .kept r .least v) (λ j. absurd (s .marked refl (j .0) (j .1))) };
     marked = λ r v. ⊎-elim (t .marked r v) (λ j. s .marked refl (j .0) (j .1));
     cleared = t .cleared;
   }
   cases true false sc tc rk e t s = record {
-    kept = λ r. ∥∥₁-map (s .kept refl) (λ q. inr (sc, q, refl));
-    least = λ r v. ⊎-elim (λ p. absurd (t .marked refl v p)) (joined-least sc (s .least refl) v);
+    kept = λ r. record { some = ∥∥₁-map (s .kept refl .some) (λ q. inr (sc, q, refl)); least = λ v. ⊎-elim (λ p. absurd (t .marked refl v p)) (joined-least sc (s .kept refl .least) v) };
     marked = λ r. true-false r;
     cleared = λ r. true-false r;
   }
   cases true true sc tc true e t s = record {
-    kept = λ r. ∥∥₁-map (t .kept r) inl;
-    least = λ r v. ⊎-elim (t .least r v) (λ j. laws .trans tc (m .joined sc d) v e (joined-least sc (s .least refl) v j));
+    kept = λ r. record { some = ∥∥₁-map (t .kept r .some) inl; least = λ v. ⊎-elim (t .kept r .least v) (λ j. laws .trans tc (m .joined sc d) v e (joined-least sc (s .kept refl .least) v j)) };
     marked = λ r. true-false r;
     cleared = λ r. true-false r;
   }
   cases true true sc tc false e t s = record {
-    kept = λ r. ∥∥₁-map (s .kept refl) (λ q. inr (sc, q, refl));
-    least = λ r v. ⊎-elim (λ p. laws .trans (m .joined sc d) tc v (other-way tc (m .joined sc d) e) (t .least refl v p)) (joined-least sc (s .least refl) v);
+    kept = λ r. record { some = ∥∥₁-map (s .kept refl .some) (λ q. inr (sc, q, refl)); least = λ v. ⊎-elim (λ p. laws .trans (m .joined sc d) tc v (other-way tc (m .joined sc d) e) (t .kept refl .least v p)) (joined-least sc (s .kept refl .least) v) };
     marked = λ r. true-false r;
     cleared = λ r. true-false r;
   }

@@ -97,7 +97,7 @@ module _ {V : Type 0} {m : Model V} (laws : Ordered m) (rules : Rules) where
   best-of (block ∷ blocks) grade bits = step-best block blocks (best-of blocks) grade bits
 
   pub best-kept : {blocks : List Block} {grade bits : ℕ} {place : Place V} → Best m (Costs m rules blocks grade bits) place → place .reached ≡ true → Kept m rules blocks grade bits (place .cost)
-  best-kept best reached = record { some = best .kept reached; least = best .least reached }
+  best-kept best reached = best .kept reached
 
   -- where a choice ends, a cost is kept
   pub some-kept : (blocks : List Block) (grade bits : ℕ) (cost : V) → Costs m rules blocks grade bits cost → (kept : V) × Kept m rules blocks grade bits kept

@@ -1,4 +1,4 @@
--- The named plan: of the choices within the budget, the one that ties settle on. Stated with choices alone. Assumes nothing.
+-- The named plan: of the choices within the budget, the one that the tie rules select. Stated with choices alone. Assumes nothing.
 use Prim.Native.Nat.{ℕ, _+_, _≤_}
 use mathlib.Core.Path.{_≡_}
 use mathlib.Core.List.{List, [], _∷_}
@@ -7,14 +7,12 @@ use Rattle.offers.specs.declared.offer.Offer.{Offer}
 use Rattle.costs.specs.Model.{Model, NoDearer, Alike}
 use Rattle.terms.specs.Rules.{Rules, charge-into}
 use Rattle.terms.specs.Choice.{Block, Choice, offer-at}
-use Rattle.trellis.specs.Places.{Costs}
+use Rattle.trellis.specs.Places.{Costs, Least}
 
 module _ {V : Type 0} (m : Model V) (rules : Rules) where
-  -- which value a place keeps: some choice for the blocks ends in the grade with exactly these bits at this cost, and no such
-  -- choice is cheaper
-  pub record Kept (blocks : List Block) (grade bits : ℕ) (cost : V) : Type 0 where
-    pub some : ∥ Costs m rules blocks grade bits cost ∥₁
-    pub least : (other : V) → Costs m rules blocks grade bits other → NoDearer m cost other
+  -- what the place of a grade and a number of bits keeps: the least cost of the choices that end there
+  abbrev pub Kept : List Block → ℕ → ℕ → V → Type 0
+  Kept blocks grade bits cost = Least m (Costs m rules blocks grade bits) cost
 
   -- where a plan ends: among the kept costs of the last block at or under the budget, the cheapest; of those the fewest bits; of
   -- those the lowest grade
@@ -55,6 +53,7 @@ NothingFits {V} m rules blocks budget = (grades : List ℕ) (bits : ℕ) (cost :
 -- and every choice of at most the budget costs at least as much
 pub record BestPlan {V : Type 0} (m : Model V) (rules : Rules) (blocks : List Block) (budget : ℕ) (grades : List ℕ) (bits : ℕ) (cost : V) : Type 0 where
   pub named : Named m rules budget blocks grades bits cost
+  -- (between the bars: that there is such a counting, not which)
   pub choice : ∥ Choice m rules blocks grades bits cost ∥₁
   pub within : bits ≤ budget
   pub cheapest : Cheapest m rules blocks budget cost

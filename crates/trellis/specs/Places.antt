@@ -12,20 +12,21 @@ use Rattle.trellis.specs.declared.place.Place.{Place}
 abbrev pub Costs : {V : Type 0} → Model V → Rules → List Block → ℕ → ℕ → V → Type 0
 Costs m rules blocks grade bits cost = (grades : List ℕ) × Choice m rules blocks (grade ∷ grades) bits cost
 
--- a place that stands for a set of costs: the least of them where there are any, else marked unreached with the start value
-pub record Best {V : Type 0} (m : Model V) (Costs : V → Type 0) (place : Place V) : Type 0 where
-  pub kept : place .reached ≡ true → ∥ Costs (place .cost) ∥₁
-  pub least : place .reached ≡ true → (other : V) → Costs other → NoDearer m (place .cost) other
-  pub marked : place .reached ≡ false → (other : V) → Costs other → ⊥
-  pub cleared : place .reached ≡ false → place .cost ≡ m .start
+-- the least of a set of costs: it is one of them, and none of them is cheaper. This is which value a place keeps.
+pub record Least {V : Type 0} (m : Model V) (Set : V → Type 0) (cost : V) : Type 0 where
+  pub some : ∥ Set cost ∥₁
+  pub least : (other : V) → Set other → NoDearer m cost other
 
--- what the place of a grade and a number of bits holds, of the newest of the blocks
-abbrev pub Right : {V : Type 0} → Model V → Rules → List Block → ℕ → ℕ → Place V → Type 0
-Right m rules blocks grade bits place = Best m (Costs m rules blocks grade bits) place
+-- a place that stands for a set of costs: reached, with the least of them; or, where there are none, marked unreached with the
+-- start value
+pub record Best {V : Type 0} (m : Model V) (Set : V → Type 0) (place : Place V) : Type 0 where
+  pub kept : place .reached ≡ true → Least m Set (place .cost)
+  pub marked : place .reached ≡ false → (other : V) → Set other → ⊥
+  pub cleared : place .reached ≡ false → place .cost ≡ m .start
 
 abbrev pub unreached : {V : Type 0} → Model V → Place V
 unreached m = record { reached = false; cost = m .start }
 
--- the target, or the source joined with the distortion where that is strictly cheaper
+-- one step: the target, or the earlier place joined with the distortion where that is reached and the target is not, or is dearer
 abbrev pub relaxed : {V : Type 0} → Model V → ℕ → Place V → Place V → Place V
-relaxed m distortion target source = cond (source .reached) (cond (target .reached && m .ranks (target .cost) (m .joined (source .cost) distortion)) target (record { reached = true; cost = m .joined (source .cost) distortion })) target
+relaxed m distortion target earlier = cond (earlier .reached) (cond (target .reached && m .ranks (target .cost) (m .joined (earlier .cost) distortion)) target (record { reached = true; cost = m .joined (earlier .cost) distortion })) target

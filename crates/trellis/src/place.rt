@@ -21,12 +21,13 @@ impl<K: Kind> Place<K> {
         }
     }
 
-    // This place, or the source joined with the distortion where that is strictly cheaper.
-    pub fn relaxed(self, source: Place<K>, distortion: u32) -> Place<K>
-        ensures { λ r. ⌜ r ≡ relaxed model distortion self source ⌝ }
+    // One step of the trellis: this place, or the earlier place joined with the distortion where that is reached and this one is
+    // not, or is dearer.
+    pub fn relaxed(self, earlier: Place<K>, distortion: u32) -> Place<K>
+        ensures { λ r. ⌜ r ≡ relaxed model distortion self earlier ⌝ }
     {
-        if source.reached {
-            let cost = source.cost.join(distortion);
+        if earlier.reached {
+            let cost = earlier.cost.join(distortion);
             if self.reached && self.cost.no_dearer(cost) {
                 self
             } else {

@@ -3,7 +3,7 @@ use mathlib.Core.Path.{_≡_, sym, ap, subst, _∙_, refl}
 use mathlib.Core.List.{_∷_}
 use Prim.Native.Nat.{_+_, _*_, _<_, _≤_}
 use Rattle.planner.proofs.Columns.{newest-before, row-before, outside-part}
-use Rattle.planner.specs.Layout.{width-of, size-of, Outside, Row}
+use Rattle.planner.specs.Layout.{width-of, size-of, Outside, PlaceRow}
 use Rattle.planner.proofs.Rows.{row-below}
 use borrow.Author.Count.{below-more}
 use borrow.Author.Needs.{needs}
@@ -22,7 +22,7 @@ loop-grade-again g c =
       outside-part m t _ _ _ _ _ _ _ (omega arith) (omega arith) (inv .0) wrote,
       λ blocks len newest. below-more _ _
           (λ k h. row-before m t _ _ _ k _ _ _ (omega (arith, row-below k (c .loop-grade .grade) (width-of t) h)) wrote (inv .1 blocks len newest k h))
-          (subst (λ x. Row m t (c .args .offers .now ∷ blocks) (c .loop-grade .grade) x (c .write-row .last .places)) at-is
+          (subst (λ x. PlaceRow m t (c .args .offers .now ∷ blocks) (c .loop-grade .grade) x (c .write-row .last .places)) at-is
           (c .write-row .ensures .row (c .args .offers .now) blocks refl len (newest-before m t _ _ blocks _ _ (omega (arith, c .pre .base, ap (λ x. x * size-of t) len)) (inv .0) newest))),
     )
 
