@@ -1,4 +1,6 @@
 // Tests of the base: each refusal at both edges of its range, what a refused call leaves, layers and piles, kinds, counts.
+#![tactic(auto)]
+
 #[cfg(test)]
 mod answers;
 #[cfg(test)]

@@ -1,4 +1,6 @@
 // One line of a job text as one command, or its fault.
+#![tactic(auto)]
+
 mod blocks;
 mod commands;
 mod fault;

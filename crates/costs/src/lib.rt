@@ -1,4 +1,6 @@
 // Cost kinds: what a choice of grades costs, and how costs rank.
+#![tactic(auto)]
+
 mod kind;
 mod no_kind;
 mod total;

@@ -1,4 +1,6 @@
 // Counts hand-made choices of grades for two photographs, block by block, in both cost kinds.
+#![tactic(auto)]
+
 mod photographs;
 mod show;
 

@@ -1,4 +1,6 @@
 // What refusals share: the layer that each belongs to.
+#![tactic(auto)]
+
 ghost use Rattle.std.specs.Prelude.{◌≡◌};
 ghost use Rattle.faults.specs.Layers.{layer_name};
 

@@ -1,4 +1,6 @@
 // A whole job text to all its answer lines.
+#![tactic(auto)]
+
 mod answer;
 mod fault;
 mod lines;

@@ -23,7 +23,7 @@ use trellis::Place;
 // Answers one line of an open job.
 fn respond<K: Priced>(planner: &mut Planner<K>, line: &[u8]) -> Result<Reply, JobFault>
     requires { Sound K.Kind.model planner.old.tables planner.old.places.now }
-    ensures { Stepped (pricing K.Kind.model valued shown) planner.old.tables planner.new.tables planner.old.places.now planner.new.places.now line.now (said_by result) }
+    ensures { Stepped (pricing K.Kind.model K.Priced.valued K.Priced.shown) planner.old.tables planner.new.tables planner.old.places.now planner.new.places.now line.now (said_by result) }
 {
     if line.is_empty() {
         return Ok(Reply::Nothing);
@@ -41,7 +41,7 @@ pub(crate) fn run_lines<K: Priced>(
     out: &mut Vec<u8>,
 ) -> Result<(), AllocError>
     requires { read + length (unread lines) < 2 ^ 32 }
-    ensures { (kind : CostKind) (charge : ℕ) → Means kind (pricing K.Kind.model valued shown) → FlatCharge charge terms → OnOk result (Grown out.old.items out.new.items (Transcript (length places.old) (busy kind terms.grades terms.ceiling charge []) (read + 1) (unread lines.entry))) }
+    ensures { (kind : CostKind) (charge : ℕ) → Means kind (pricing K.Kind.model K.Priced.valued K.Priced.shown) → FlatCharge charge terms → OnOk result (Grown out.old.items out.new.items (Transcript (length places.old) (busy kind terms.grades terms.ceiling charge []) (read + 1) (unread lines.entry))) }
 {
     let mut planner = Planner::open(terms, places);
     let mut number = read;

@@ -31,7 +31,7 @@ fn add_block<K: Priced>(
     block: Either<OwnBlock, GainBlock>,
 ) -> Result<Reply, JobFault>
     requires { Sound K.Kind.model planner.old.tables planner.old.places.now }
-    ensures { Done (pricing K.Kind.model valued shown) planner.old.tables planner.new.tables planner.old.places.now planner.new.places.now (Add weight extra block) (said_by result) }
+    ensures { Done (pricing K.Kind.model K.Priced.valued K.Priced.shown) planner.old.tables planner.new.tables planner.old.places.now planner.new.places.now (Add weight extra block) (said_by result) }
 {
     match block {
         Either::Left(own) => add(planner, &weight.over(extra.over(own))),
@@ -41,7 +41,7 @@ fn add_block<K: Priced>(
 
 fn take_back<K: Priced>(planner: &mut Planner<K>) -> Result<Reply, JobFault>
     requires { Sound K.Kind.model planner.old.tables planner.old.places.now }
-    ensures { Done (pricing K.Kind.model valued shown) planner.old.tables planner.new.tables planner.old.places.now planner.new.places.now TakeBack (said_by result) }
+    ensures { Done (pricing K.Kind.model K.Priced.valued K.Priced.shown) planner.old.tables planner.new.tables planner.old.places.now planner.new.places.now TakeBack (said_by result) }
 {
     planner.take_back()?;
     Ok(Reply::Nothing)
@@ -49,7 +49,7 @@ fn take_back<K: Priced>(planner: &mut Planner<K>) -> Result<Reply, JobFault>
 
 fn plan<K: Priced>(planner: &Planner<K>, budget: u32) -> Result<Reply, JobFault>
     requires { Sound K.Kind.model planner.now.tables planner.now.places.now }
-    ensures { Done (pricing K.Kind.model valued shown) planner.now.tables planner.now.tables planner.now.places.now planner.now.places.now (Plan budget) (said_by result) }
+    ensures { Done (pricing K.Kind.model K.Priced.valued K.Priced.shown) planner.now.tables planner.now.tables planner.now.places.now planner.now.places.now (Plan budget) (said_by result) }
 {
     let mut list = [0; 64];
     let answer = planner.plan(budget, &mut list)?;
@@ -64,7 +64,7 @@ fn plan<K: Priced>(planner: &Planner<K>, budget: u32) -> Result<Reply, JobFault>
 
 fn fewest<K: Priced>(planner: &Planner<K>, bound: u32) -> Result<Reply, JobFault>
     requires { Sound K.Kind.model planner.now.tables planner.now.places.now }
-    ensures { Done (pricing K.Kind.model valued shown) planner.now.tables planner.now.tables planner.now.places.now planner.now.places.now (Fewest bound) (said_by result) }
+    ensures { Done (pricing K.Kind.model K.Priced.valued K.Priced.shown) planner.now.tables planner.now.tables planner.now.places.now planner.now.places.now (Fewest bound) (said_by result) }
 {
     let bits = planner.fewest(K::of_bound(bound))?;
     Ok(Reply::Bits { bound, bits })
@@ -73,7 +73,7 @@ fn fewest<K: Priced>(planner: &Planner<K>, bound: u32) -> Result<Reply, JobFault
 // Carries a command to an open job out.
 pub(crate) fn obey<K: Priced>(planner: &mut Planner<K>, command: Command) -> Result<Reply, JobFault>
     requires { (Sound K.Kind.model planner.old.tables planner.old.places.now) × (Asks command) }
-    ensures { Done (pricing K.Kind.model valued shown) planner.old.tables planner.new.tables planner.old.places.now planner.new.places.now command (said_by result) }
+    ensures { Done (pricing K.Kind.model K.Priced.valued K.Priced.shown) planner.old.tables planner.new.tables planner.old.places.now planner.new.places.now command (said_by result) }
 {
     match command {
         Command::Open { .. } => unreachable(),

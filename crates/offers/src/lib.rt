@@ -1,4 +1,6 @@
 // What a block of a photograph offers: for each grade a rate and a distortion, or nothing.
+#![tactic(auto)]
+
 mod either;
 mod fault;
 mod gain;

@@ -23,7 +23,7 @@ pub trait Source {
 
 // The offers of a source below a number of grades, by grade; none from there on.
 pub fn offers_below<S: Source>(source: &S, grades: u8) -> Block
-    ensures { result ≡ offers_below (means source.now) grades }
+    ensures { result ≡ offers_below (S.Source.means source.now) grades }
 {
     let mut offers = [None; 16];
     for grade in 0..16u8 {

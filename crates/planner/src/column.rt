@@ -24,8 +24,8 @@ fn write_row<K: Kind>(
     requires base { base ≡ standing * size_of terms.now }
     requires at { at ≡ base + grade * width_of terms.now }
     requires fits { base + size_of terms.now ≤ length places.old }
-    ensures outside { Outside model at (width_of terms.now) places.old places.new }
-    ensures row { (block : Offers) (blocks : List Offers) → offer_at block grade ≡ offer → length blocks ≡ standing → Newest model terms.now blocks places.old → PlaceRow model terms.now (block ∷ blocks) grade at places.new }
+    ensures outside { Outside K.Kind.model at (width_of terms.now) places.old places.new }
+    ensures row { (block : Offers) (blocks : List Offers) → offer_at block grade ≡ offer → length blocks ≡ standing → Newest K.Kind.model terms.now blocks places.old → PlaceRow K.Kind.model terms.now (block ∷ blocks) grade at places.new }
 {
     match offer {
         None => clear_row(places, at, width(terms)),
@@ -49,8 +49,8 @@ pub(crate) fn write_column<K: Kind>(
 )
     requires base { base ≡ standing * size_of terms.now }
     requires fits { base + size_of terms.now ≤ length places.old }
-    ensures outside { Outside model base (size_of terms.now) places.old places.new }
-    ensures column { (blocks : List Offers) → length blocks ≡ standing → Newest model terms.now blocks places.old → Column model terms.now (offers.now ∷ blocks) base places.new }
+    ensures outside { Outside K.Kind.model base (size_of terms.now) places.old places.new }
+    ensures column { (blocks : List Offers) → length blocks ≡ standing → Newest K.Kind.model terms.now blocks places.old → Column K.Kind.model terms.now (offers.now ∷ blocks) base places.new }
 {
     let grades = terms.grades() as usize;
     let width = width(terms);

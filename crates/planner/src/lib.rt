@@ -1,4 +1,6 @@
 // The planner: one grade for each block of a photograph, so that the bits are at most the budget and the cost is the least.
+#![tactic(auto)]
+
 mod call;
 mod column;
 mod fault;

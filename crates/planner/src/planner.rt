@@ -30,7 +30,7 @@ impl<'a, K: Kind> Planner<'a, K> {
     pub fn open(terms: Terms, places: &'a mut [Place<K>]) -> Self
         ensures terms { result.tables.terms ≡ terms }
         ensures standing { standing_blocks result.tables ≡ [] }
-        ensures sound { Sound model result.tables result.places.now }
+        ensures sound { Sound K.Kind.model result.tables result.places.now }
         ensures places { result.places.now ≡ places.old }
         ensures same { result.places.ghost_name ≡ places.entry.ghost_name }
     {
@@ -75,7 +75,7 @@ impl<'a, K: Kind> Planner<'a, K> {
     // The plan for a budget: its bits and its cost, and its grades in the first entries of the list.
     pub fn plan(&self, budget: u32, grades: &mut [u8]) -> Result<(u32, K), PlannerFault>
         ensures frame { PlanFrame (plan_row self.now.tables.terms self.now.tables.standing budget (length grades.old)) self.now.tables.standing grades.old grades.new result }
-        ensures answer { Sound model self.now.tables self.now.places.now → Planned model (rules_of self.now.tables.terms) (standing_blocks self.now.tables) budget (reverse (take self.now.tables.standing grades.new)) result }
+        ensures answer { Sound K.Kind.model self.now.tables self.now.places.now → Planned K.Kind.model (rules_of self.now.tables.terms) (standing_blocks self.now.tables) budget (reverse (take self.now.tables.standing grades.new)) result }
     {
         plan_grades(&self.tables, self.places, budget, grades)
     }
@@ -83,7 +83,7 @@ impl<'a, K: Kind> Planner<'a, K> {
     // The fewest bits at which a choice is within the bound.
     pub fn fewest(&self, bound: K) -> Result<u32, PlannerFault>
         ensures refused { OnlyRefuses 36 result }
-        ensures answer { Sound model self.now.tables self.now.places.now → FewestOf model (rules_of self.now.tables.terms) self.now.tables.terms.ceiling (standing_blocks self.now.tables) bound result }
+        ensures answer { Sound K.Kind.model self.now.tables self.now.places.now → FewestOf K.Kind.model (rules_of self.now.tables.terms) self.now.tables.terms.ceiling (standing_blocks self.now.tables) bound result }
     {
         fewest_bits(&self.tables, self.places, bound)
     }

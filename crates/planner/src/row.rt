@@ -23,9 +23,9 @@ pub(crate) fn relax_row<K: Kind>(
     requires apart { from + width ≤ to }
     requires fits { to + width ≤ length places.old }
     requires shifts { shift ≤ width }
-    ensures before { (k : ℕ) → k < to + shift → slice_index_or places.new k (unreached model) ≡ slice_index_or places.old k (unreached model) }
-    ensures after { (k : ℕ) → to + width ≤ k → slice_index_or places.new k (unreached model) ≡ slice_index_or places.old k (unreached model) }
-    ensures row { (b : ℕ) → b + shift < width → slice_index_or places.new (to + (b + shift)) (unreached model) ≡ relaxed model distortion (slice_index_or places.old (to + (b + shift)) (unreached model)) (slice_index_or places.old (from + b) (unreached model)) }
+    ensures before { (k : ℕ) → k < to + shift → slice_index_or places.new k (unreached K.Kind.model) ≡ slice_index_or places.old k (unreached K.Kind.model) }
+    ensures after { (k : ℕ) → to + width ≤ k → slice_index_or places.new k (unreached K.Kind.model) ≡ slice_index_or places.old k (unreached K.Kind.model) }
+    ensures row { (b : ℕ) → b + shift < width → slice_index_or places.new (to + (b + shift)) (unreached K.Kind.model) ≡ relaxed K.Kind.model distortion (slice_index_or places.old (to + (b + shift)) (unreached K.Kind.model)) (slice_index_or places.old (from + b) (unreached K.Kind.model)) }
 {
     for bits in shift..width {
         let source = places[from + (bits - shift)];
@@ -37,8 +37,8 @@ pub(crate) fn relax_row<K: Kind>(
 // Marks a row unreached.
 pub(crate) fn clear_row<K: Kind>(places: &mut [Place<K>], at: usize, width: usize)
     requires { at + width ≤ length places.old }
-    ensures outside { Outside model at width places.old places.new }
-    ensures clear { (b : ℕ) → b < width → slice_index_or places.new (at + b) (unreached model) ≡ unreached model }
+    ensures outside { Outside K.Kind.model at width places.old places.new }
+    ensures clear { (b : ℕ) → b < width → slice_index_or places.new (at + b) (unreached K.Kind.model) ≡ unreached K.Kind.model }
 {
     for bits in 0..width {
         places[at + bits] = Place::unreached();
@@ -57,8 +57,8 @@ pub(crate) fn reach_row<K: Kind>(
     requires grade { grade < terms.now.grades }
     requires apart { before + terms.now.grades * width_of terms.now ≤ at }
     requires fits { at + width_of terms.now ≤ length places.old }
-    ensures outside { Outside model at (width_of terms.now) places.old places.new }
-    ensures row { (block : Block) (prior : Block) (blocks : List Block) → offer_at block grade ≡ Some offer → Column model terms.now (prior ∷ blocks) before places.old → PlaceRow model terms.now (block ∷ prior ∷ blocks) grade at places.new }
+    ensures outside { Outside K.Kind.model at (width_of terms.now) places.old places.new }
+    ensures row { (block : Block) (prior : Block) (blocks : List Block) → offer_at block grade ≡ Some offer → Column K.Kind.model terms.now (prior ∷ blocks) before places.old → PlaceRow K.Kind.model terms.now (block ∷ prior ∷ blocks) grade at places.new }
 {
     let grades = terms.grades() as usize;
     let width = width(terms);
@@ -89,8 +89,8 @@ pub(crate) fn first_row<K: Kind>(
 )
     requires grade { grade < terms.now.grades }
     requires fits { at + width_of terms.now ≤ length places.old }
-    ensures outside { Outside model at (width_of terms.now) places.old places.new }
-    ensures row { (block : Block) → offer_at block grade ≡ Some offer → PlaceRow model terms.now (block ∷ []) grade at places.new }
+    ensures outside { Outside K.Kind.model at (width_of terms.now) places.old places.new }
+    ensures row { (block : Block) → offer_at block grade ≡ Some offer → PlaceRow K.Kind.model terms.now (block ∷ []) grade at places.new }
 {
     let width = width(terms);
     clear_row(places, at, width);

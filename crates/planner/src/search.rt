@@ -28,7 +28,7 @@ pub(crate) fn place_at<K: Kind>(
     requires fits { base + size_of terms.now ≤ length places.now }
     requires grade { grade < terms.now.grades }
     requires bits { bits ≤ terms.now.ceiling }
-    ensures { result ≡ place_in model terms.now places.now base grade bits }
+    ensures { result ≡ place_in K.Kind.model terms.now places.now base grade bits }
 {
     places[base + (grade * width(terms) + bits)]
 }
@@ -41,7 +41,7 @@ pub(crate) fn first_within<K: Kind>(
     bound: K,
 ) -> Option<usize>
     requires { base + size_of terms.now ≤ length places.now }
-    ensures { FirstWithin model terms.now places.now base bound result }
+    ensures { FirstWithin K.Kind.model terms.now places.now base bound result }
 {
     let grades = terms.grades() as usize;
     let width = width(terms);
@@ -73,8 +73,8 @@ fn leads<K: Kind>(
     requires grade { grade < terms.now.grades }
     requires bits { bits ≤ terms.now.ceiling }
     requires earlier { earlier < terms.now.grades }
-    ensures does { result ≡ true → Leads model terms.now places.now base grade bits offer cost earlier }
-    ensures not { result ≡ false → Leads model terms.now places.now base grade bits offer cost earlier → ⊥ }
+    ensures does { result ≡ true → Leads K.Kind.model terms.now places.now base grade bits offer cost earlier }
+    ensures not { result ≡ false → Leads K.Kind.model terms.now places.now base grade bits offer cost earlier → ⊥ }
 {
     let charge = terms.charge_into(Some(earlier as u8), grade as u8) as usize;
     let shift = offer.rate() as usize + charge;
@@ -102,8 +102,8 @@ pub(crate) fn grade_before<K: Kind>(
     requires grade { grade < terms.now.grades }
     requires bits { bits ≤ terms.now.ceiling }
     ensures below { result < terms.now.grades }
-    ensures leads { (((k : ℕ) → k < terms.now.grades → Leads model terms.now places.now base grade bits offer cost k → ⊥) → ⊥) → Leads model terms.now places.now base grade bits offer cost result }
-    ensures lowest { (k : ℕ) → k < result → Leads model terms.now places.now base grade bits offer cost k → ⊥ }
+    ensures leads { (((k : ℕ) → k < terms.now.grades → Leads K.Kind.model terms.now places.now base grade bits offer cost k → ⊥) → ⊥) → Leads K.Kind.model terms.now places.now base grade bits offer cost result }
+    ensures lowest { (k : ℕ) → k < result → Leads K.Kind.model terms.now places.now base grade bits offer cost k → ⊥ }
 {
     for earlier in 0..terms.grades() as usize {
         if leads(terms, places, base, grade, bits, offer, cost, earlier) {
@@ -115,7 +115,7 @@ pub(crate) fn grade_before<K: Kind>(
 
 // The better of an end and a place; the end where they rank alike.
 fn keep<K: Kind>(best: Option<End<K>>, bits: usize, grade: usize, place: Place<K>) -> Option<End<K>>
-    ensures { result ≡ kept_end model best bits grade place }
+    ensures { result ≡ kept_end K.Kind.model best bits grade place }
 {
     if !place.reached {
         return best;
@@ -146,7 +146,7 @@ pub(crate) fn best_end<K: Kind>(
 ) -> Option<End<K>>
     requires fits { base + size_of terms.now ≤ length places.now }
     requires budget { budget ≤ terms.now.ceiling }
-    ensures { Seen model terms.now places.now base (λ b g. (b ≤ budget) × (g < terms.now.grades)) result }
+    ensures { Seen K.Kind.model terms.now places.now base (λ b g. (b ≤ budget) × (g < terms.now.grades)) result }
 {
     let grades = terms.grades() as usize;
     let mut best = None;

@@ -69,7 +69,7 @@ pub(crate) fn fewest_bits<K: Kind>(
 ) -> Result<u32, PlannerFault>
     requires { tables.now.standing * size_of tables.now.terms ≤ length places.now }
     ensures refused { OnlyRefuses 36 result }
-    ensures answer { Sound model tables.now places.now → FewestOf model (rules_of tables.now.terms) tables.now.terms.ceiling (standing_blocks tables.now) bound result }
+    ensures answer { Sound K.Kind.model tables.now places.now → FewestOf K.Kind.model (rules_of tables.now.terms) tables.now.terms.ceiling (standing_blocks tables.now) bound result }
 {
     let standing = tables.standing;
     if standing == 0 {
@@ -96,7 +96,7 @@ pub(crate) fn plan_grades<K: Kind>(
 ) -> Result<(u32, K), PlannerFault>
     requires { tables.now.standing * size_of tables.now.terms ≤ length places.now }
     ensures frame { PlanFrame (plan_row tables.now.terms tables.now.standing budget (length out.old)) tables.now.standing out.old out.new result }
-    ensures answer { Sound model tables.now places.now → Planned model (rules_of tables.now.terms) (standing_blocks tables.now) budget (reverse (take tables.now.standing out.new)) result }
+    ensures answer { Sound K.Kind.model tables.now places.now → Planned K.Kind.model (rules_of tables.now.terms) (standing_blocks tables.now) budget (reverse (take tables.now.standing out.new)) result }
 {
     let terms = tables.terms;
     let standing = tables.standing;

@@ -28,7 +28,7 @@ fn step_back<K: Kind>(
     requires bits { bits ≤ tables.now.terms.ceiling }
     ensures below { result.0 < tables.now.terms.grades }
     ensures through { result.1 ≤ tables.now.terms.ceiling }
-    ensures back { (prior : Offers) (rest : List Offers) → Back model tables.now.terms places.now (slice_index_or tables.now.blocks n []) prior rest n grade bits result.0 result.1 }
+    ensures back { (prior : Offers) (rest : List Offers) → Back K.Kind.model tables.now.terms places.now (slice_index_or tables.now.blocks n []) prior rest n grade bits result.0 result.1 }
 {
     let terms = tables.terms;
     let size = size(&terms);
@@ -61,7 +61,7 @@ pub(crate) fn walk_back<K: Kind>(
     requires bits { bits ≤ tables.now.terms.ceiling }
     ensures later { (k : ℕ) → tables.now.standing ≤ k → slice_index out.new k ≡ slice_index out.old k }
     ensures end { slice_index out.new (tables.now.standing - 1) ≡ grade }
-    ensures way { Sound model tables.now places.now → (place_in model tables.now.terms places.now ((tables.now.standing - 1) * size_of tables.now.terms) grade bits).reached ≡ true → WayBack model (rules_of tables.now.terms) (standing_blocks tables.now) (reverse (take tables.now.standing out.new)) bits (place_in model tables.now.terms places.now ((tables.now.standing - 1) * size_of tables.now.terms) grade bits).cost }
+    ensures way { Sound K.Kind.model tables.now places.now → (place_in K.Kind.model tables.now.terms places.now ((tables.now.standing - 1) * size_of tables.now.terms) grade bits).reached ≡ true → WayBack K.Kind.model (rules_of tables.now.terms) (standing_blocks tables.now) (reverse (take tables.now.standing out.new)) bits (place_in K.Kind.model tables.now.terms places.now ((tables.now.standing - 1) * size_of tables.now.terms) grade bits).cost }
 {
     let mut grade = grade;
     let mut bits = bits;

@@ -1,5 +1,7 @@
 // Tests of the planner: plans held to an enumeration of all choices, each refusal at its edge, what refused calls leave, the
 // places, and whole runs.
+#![tactic(auto)]
+
 #[cfg(test)]
 mod all_choices;
 #[cfg(test)]

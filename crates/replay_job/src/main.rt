@@ -1,4 +1,6 @@
 // Replays worked jobs in both cost kinds, and prints what was asked and answered.
+#![tactic(auto)]
+
 mod blocks;
 mod show;
 

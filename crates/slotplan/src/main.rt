@@ -1,4 +1,6 @@
 // Reads a job text from standard input and writes its answer lines to standard output.
+#![tactic(auto)]
+
 use anyhow::anyhow;
 use job::{LONGEST_TEXT, answer_text};
 use std::io::{Read, Write};

@@ -1,6 +1,8 @@
 // Answers many stored jobs, so that the gate compares all their answer lines. The input is a row of parts, each after a line
 // `NAME,BYTES,TIMES`: so many bytes, to be read so many times over. A part with a name begins a job, and one without goes on
 // with it.
+#![tactic(auto)]
+
 use anyhow::anyhow;
 use job::answer_text;
 use jobtext::{field, number};

@@ -20,8 +20,8 @@ fn offered(terms: &Terms, block: &Block, grade: u8) -> Option<Offer>
 
 // The bits and the cost of the grades as a choice for the blocks; none where they are no choice, or for more than 64 blocks.
 pub fn count_choice<K: Kind>(terms: &Terms, blocks: &[Block], grades: &[u8]) -> Option<(u32, K)>
-    ensures counted { Counted model (rules_of terms.now) blocks.now grades.now result }
-    ensures once { CountsOnce model }
+    ensures counted { Counted K.Kind.model (rules_of terms.now) blocks.now grades.now result }
+    ensures once { CountsOnce K.Kind.model }
 {
     if blocks.len() > 64 || grades.len() != blocks.len() {
         return None;

@@ -1,4 +1,6 @@
 // Terms of planning, and the bits and the cost of a choice of grades under them.
+#![tactic(auto)]
+
 mod choice;
 mod fault;
 mod ranges;

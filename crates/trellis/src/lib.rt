@@ -1,4 +1,6 @@
 // The trellis: places, the costs that they keep, and the plan that is named for some blocks and a budget.
+#![tactic(auto)]
+
 mod named;
 mod place;
 

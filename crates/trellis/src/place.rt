@@ -14,7 +14,7 @@ pub struct Place<K> {
 impl<K: Kind> Place<K> {
     // A place that no choice reaches.
     pub fn unreached() -> Place<K>
-        ensures { result ≡ unreached model }
+        ensures { result ≡ unreached K.Kind.model }
     {
         Place {
             reached: false,
@@ -25,7 +25,7 @@ impl<K: Kind> Place<K> {
     // One step of the trellis: this place, or the earlier place joined with the distortion where that is reached and this one is
     // not, or is dearer.
     pub fn relaxed(self, earlier: Place<K>, distortion: u32) -> Place<K>
-        ensures { result ≡ relaxed model distortion self earlier }
+        ensures { result ≡ relaxed K.Kind.model distortion self earlier }
     {
         if earlier.reached {
             let cost = earlier.cost.join(distortion);

@@ -8,16 +8,16 @@ use Rattle.command.proofs.blocks.own_block.Goals as goal
 pub loop-grade-init : goal.loop-grade-init
 loop-grade-init c = sofar_none (line_fields c.args.line.now) c.args.grades _ c.new-block.ensures
 
-pub read-pair-requires : goal.read-pair-requires
-read-pair-requires c = (omega arith, sofar_free (line_fields c.args.line.now) c.args.grades c.loop-grade.grade c.loop-grade.block c.loop-grade.invariant)
+pub read_pair-requires : goal.read_pair-requires
+read_pair-requires c = (omega arith, sofar_free (line_fields c.args.line.now) c.args.grades c.loop-grade.grade c.loop-grade.block c.loop-grade.invariant)
 
 pub loop-grade-preserved : goal.loop-grade-preserved
 loop-grade-preserved c =
-    sofar_more (line_fields c.args.line.now) c.args.grades c.loop-grade.grade c.loop-grade.block c.loop-grade.invariant c.loop-grade-test.true c.read-pair.new.block c.in-ok-read-pair.ensures
+    sofar_more (line_fields c.args.line.now) c.args.grades c.loop-grade.grade c.loop-grade.block c.loop-grade.invariant c.loop-grade-test.true c.read_pair.new.block c.in_ok-read_pair.ensures
 
-pub returns-in-err-read-pair : goal.returns-in-err-read-pair
-returns-in-err-read-pair c =
-    let found = c.in-err-read-pair.field-0.0 in
-    let p = err_from_is_err_and c.from-residual.result c.from-residual.ensures.1 in
+pub returns-in_err-read_pair : goal.returns-in_err-read_pair
+returns-in_err-read_pair c =
+    let found = c.in_err-read_pair.field-0.0 in
+    let p = err_from_is_err_and c.from_residual.result c.from_residual.ensures.1 in
     rw (p.1, p.2)
-    (sofar_fails (line_fields c.args.line.now) c.args.grades c.loop-grade.grade c.loop-grade.block c.loop-grade.invariant c.loop-grade-test.true found.field (fault_layer found.fault) (fault_number found.fault) c.in-err-read-pair.ensures)
+    (sofar_fails (line_fields c.args.line.now) c.args.grades c.loop-grade.grade c.loop-grade.block c.loop-grade.invariant c.loop-grade-test.true found.field (fault_layer found.fault) (fault_number found.fault) c.in_err-read_pair.ensures)

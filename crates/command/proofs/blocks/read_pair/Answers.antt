@@ -13,8 +13,8 @@ pub returns-in-Some : goal.returns-in-Some
 returns-in-Some c =
     let fields = line_fields c.args.line.now in
     let k : ℕ = 3 + 2 * c.from.result in
-    let rate = MatchResult-at_ok _ _ _ c.in-ok-rate.ensures c.rate-at.ensures in
+    let rate = MatchResult-at_ok _ _ _ c.in_ok-rate.ensures c.rate_at.ensures in
     let number = MatchOption-at_some _ _ _ c.in-Some.is rate in
-    MatchResult-weaker c.in-field-in-Some.result (found_in _ _ _ _ _ c.in-field-in-Some.ensures c.distortion-at.ensures)
-    (λ x read. subst (λ grade. PairRead fields (3 + 2 * grade) c.args.block.now c.distortion-at.new.block c.args.grade) c.from.ensures (pair_set fields k c.in-Some.rate number read.0 c.args.block.now c.distortion-at.new.block c.args.grade read.1 read.2))
+    MatchResult-weaker c.in_field-in-Some.result (found_in _ _ _ _ _ c.in_field-in-Some.ensures c.distortion_at.ensures)
+    (λ x read. subst (λ grade. PairRead fields (3 + 2 * grade) c.args.block.now c.distortion_at.new.block c.args.grade) c.from.ensures (pair_set fields k c.in-Some.rate number read.0 c.args.block.now c.distortion_at.new.block c.args.grade read.1 read.2))
     (λ found no. subst (λ grade. FirstFails (pairs 1) [] fields (3 + 2 * grade) found.field (fault_layer found.fault) (fault_number found.fault)) c.from.ensures (second_fails fields k c.in-Some.rate number found.field (fault_layer found.fault) (fault_number found.fault) no.0 no.1))

@@ -7,8 +7,8 @@ use Rattle.command.proofs.lines.fewest_line.Goals as goal
 
 pub returns : goal.returns
 returns c =
-    let bound = MatchResult-at_ok _ _ _ c.in-ok-bound.ensures c.any-number-at.ensures in
-    let asked = fewest c.in-ok-bound.bound in
+    let bound = MatchResult-at_ok _ _ _ c.in_ok-bound.ensures c.any_number_at.ensures in
+    let asked = fewest c.in_ok-bound.bound in
     record {
       instruction = asked;
       kind_is = refl;

@@ -9,12 +9,12 @@ use Rattle.command.proofs.lines.gain_line.Goals as goal
 
 pub returns : goal.returns
 returns c =
-    let weight = MatchResult-at_ok _ _ _ c.in-ok-weight.ensures c.weight-at.ensures in
-    let extra = MatchResult-at_ok _ _ _ c.in-ok-extra.ensures c.extra-at.ensures in
-    let samples = MatchResult-at_ok _ _ _ c.in-ok-samples.ensures c.samples-at.ensures in
-    let loud = MatchResult-at_ok _ _ _ c.in-ok-gain.ensures c.gain-at.ensures in
-    let block = c.in-ok-gain.gain in
-    let asked = add c.in-ok-weight.weight.times c.in-ok-extra.extra.bits (gain block.samples block.gain) in
+    let weight = MatchResult-at_ok _ _ _ c.in_ok-weight.ensures c.weight_at.ensures in
+    let extra = MatchResult-at_ok _ _ _ c.in_ok-extra.ensures c.extra_at.ensures in
+    let samples = MatchResult-at_ok _ _ _ c.in_ok-samples.ensures c.samples_at.ensures in
+    let loud = MatchResult-at_ok _ _ _ c.in_ok-gain.ensures c.gain_at.ensures in
+    let block = c.in_ok-gain.gain in
+    let asked = add c.in_ok-weight.weight.times c.in_ok-extra.extra.bits (gain block.samples block.gain) in
     record {
       instruction = asked;
       kind_is = refl;

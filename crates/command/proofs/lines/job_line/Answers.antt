@@ -9,15 +9,15 @@ use Rattle.command.proofs.lines.job_line.Goals as goal
 
 pub returns : goal.returns
 returns c =
-    let kind = MatchResult-at_ok _ _ _ c.in-ok-kind.ensures c.cost-kind-at.ensures in
-    let grades = MatchResult-at_ok _ _ _ c.in-ok-grades.ensures c.grades-at.ensures in
-    let ceiling = MatchResult-at_ok _ _ _ c.in-ok-uncharged.ensures c.ceiling-at.ensures in
-    let charge = MatchResult-at_ok _ _ _ c.in-ok-terms.ensures c.charge-at.ensures in
-    let terms = c.in-ok-terms.terms in
+    let kind = MatchResult-at_ok _ _ _ c.in_ok-kind.ensures c.cost_kind_at.ensures in
+    let grades = MatchResult-at_ok _ _ _ c.in_ok-grades.ensures c.grades_at.ensures in
+    let ceiling = MatchResult-at_ok _ _ _ c.in_ok-uncharged.ensures c.ceiling_at.ensures in
+    let charge = MatchResult-at_ok _ _ _ c.in_ok-terms.ensures c.charge_at.ensures in
+    let terms = c.in_ok-terms.terms in
     let flat = charge.2 in
     let same-grades = sym (flat.grades_is ∙ ceiling.0.grades_is) in
     let same-ceiling = sym flat.ceiling_is in
-    let asked = open_job c.in-ok-kind.kind terms.grades terms.ceiling charge.0 in
+    let asked = open_job c.in_ok-kind.kind terms.grades terms.ceiling charge.0 in
     record {
       instruction = asked;
       kind_is = refl;

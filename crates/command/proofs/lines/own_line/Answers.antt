@@ -8,10 +8,10 @@ use Rattle.command.proofs.lines.own_line.Goals as goal
 
 pub returns : goal.returns
 returns c =
-    let weight = MatchResult-at_ok _ _ _ c.in-ok-weight.ensures c.weight-at.ensures in
-    let extra = MatchResult-at_ok _ _ _ c.in-ok-extra.ensures c.extra-at.ensures in
-    let read = c.in-ok-own.ensures in
-    let asked = add c.in-ok-weight.weight.times c.in-ok-extra.extra.bits (own read.offers) in
+    let weight = MatchResult-at_ok _ _ _ c.in_ok-weight.ensures c.weight_at.ensures in
+    let extra = MatchResult-at_ok _ _ _ c.in_ok-extra.ensures c.extra_at.ensures in
+    let read = c.in_ok-own.ensures in
+    let asked = add c.in_ok-weight.weight.times c.in_ok-extra.extra.bits (own read.offers) in
     record {
       instruction = asked;
       kind_is = refl;

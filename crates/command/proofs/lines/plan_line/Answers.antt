@@ -7,8 +7,8 @@ use Rattle.command.proofs.lines.plan_line.Goals as goal
 
 pub returns : goal.returns
 returns c =
-    let budget = MatchResult-at_ok _ _ _ c.in-ok-budget.ensures c.any-number-at.ensures in
-    let asked = plan c.in-ok-budget.budget in
+    let budget = MatchResult-at_ok _ _ _ c.in_ok-budget.ensures c.any_number_at.ensures in
+    let asked = plan c.in_ok-budget.budget in
     record {
       instruction = asked;
       kind_is = refl;

@@ -9,5 +9,5 @@ returns c =
     let coarse = c.args.coarse in
     let fine = c.args.fine in
     let means : (k : ℕ) → own_means c.set-2.new.self k ≡ two_offers coarse fine k = λ k.
-    c.in-ok-set-2.ensures.left k ∙ ap (λ o. cond (eqb k 1) (offer_of fine.0 fine.1) o) (c.in-ok-set.ensures.left k ∙ ap (λ o. cond (eqb k 0) (offer_of coarse.0 coarse.1) o) (c.new-block.ensures k)) in
-    c.offers-below.ensures ∙ ap (λ f. offers_below f c.grades.result) (λ i k. means k i) ∙ ap (λ n. offers_below (two_offers coarse fine) n) c.grades.ensures.is
+    c.in_ok-set-2.ensures.left k ∙ ap (λ o. cond (eqb k 1) (offer_of fine.0 fine.1) o) (c.in_ok-set.ensures.left k ∙ ap (λ o. cond (eqb k 0) (offer_of coarse.0 coarse.1) o) (c.new-block.ensures k)) in
+    c.offers_below.ensures ∙ ap (λ f. offers_below f c.grades.result) (λ i k. means k i) ∙ ap (λ n. offers_below (two_offers coarse fine) n) c.grades.ensures.is

@@ -11,7 +11,7 @@ pub loop-line-init : goal.loop-line-init
 loop-line-init g c =
     let o = c.open-planner.result in
     let e = c.open-planner.ensures in
-    let same : unread c.args.lines ≡ unread c.into-iter-line-iterator.result = ap unread (sym c.into-iter-line-iterator.ensures.into-iter-gives) in
+    let same : unread c.args.lines ≡ unread c.into_iter-line-iterator.result = ap unread (sym c.into_iter-line-iterator.ensures.into_iter-gives) in
     let p = pricing g.K.Kind.model g.K.Priced.valued g.K.Priced.shown in
     let before = vec_items c.args.out.now in
     let going = going_first p o.tables.terms (length o.places.now) c.args.read (unread c.args.lines) before o.tables o.places.now refl refl e.sound e.standing in
@@ -28,7 +28,7 @@ loop-line-preserved g c =
     let all = unread c.args.lines in
     let before = vec_items c.args.out.now in
     let inv = subst (λ ls. Going p terms lent c.args.read all before old.tables old.places.now c.loop-line.number ls (vec_items c.loop-line.out)) c.in-Some.ensures.steps c.loop-line.invariant.2 in
-    (search rules, search rules, going_on p terms lent c.args.read all before old.tables new.tables old.places.now new.places.now c.loop-line.number c.in-Some.line.now (unread c.next.new.self) (vec_items c.loop-line.out) (vec_items c.say.new.out) (said_by c.respond-answer.result) c.respond-answer.ensures c.in-ok-say.ensures inv)
+    (search rules, search rules, going_on p terms lent c.args.read all before old.tables new.tables old.places.now new.places.now c.loop-line.number c.in-Some.line.now (unread c.next.new.self) (vec_items c.loop-line.out) (vec_items c.say.new.out) (said_by c.respond-answer.result) c.respond-answer.ensures c.in_ok-say.ensures inv)
 
 pub returns : goal.returns
 returns g c = λ kind charge m flat.

@@ -3,4 +3,4 @@ use Rattle.job.proofs.Saying.{never_short}
 use Rattle.job.proofs.say.write_bits.Goals as goal
 
 pub unwrap-requires : goal.unwrap-requires
-unwrap-requires c = never_short _ _ _ c.bits-line.result (every_line_fits.bits _ _ _ c.ranges.line.fits c.ranges.bound.fits c.ranges.bits.fits) c.requires c.bits-line.ensures.answered
+unwrap-requires c = never_short _ _ _ c.bits_line.result (every_line_fits.bits _ _ _ c.ranges.line.fits c.ranges.bound.fits c.ranges.bits.fits) c.requires c.bits_line.ensures.answered

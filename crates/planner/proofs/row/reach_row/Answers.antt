@@ -8,8 +8,8 @@ use Rattle.planner.proofs.Rows.{row_below, outside_then, passed, turned, column_
 use Rattle.planner.proofs.row.reach_row.Goals as goal
 use Rattle.planner.proofs.row.reach_row.Goals.{then-shift-width, else-shift-width}
 
-pub relax-row-requires : goal.relax-row-requires
-relax-row-requires g c =
+pub relax_row-requires : goal.relax_row-requires
+relax_row-requires g c =
     let t = c.args.terms.now in
     let w = c.width-width.result in
     let w-is = c.width-width.ensures.is in
@@ -25,12 +25,12 @@ loop-earlier-preserved g c =
     let w-is = c.width-width.ensures.is in
     let inv = c.loop-earlier.invariant in
     let lt : c.loop-earlier.earlier < t.grades = omega arith in
-    let shift = c.rate.result + c.charge-into-charge.result in
-    let shift_is : shift ≡ c.args.offer.rate + (rules_of t).charge c.loop-earlier.earlier c.args.grade = ap₂ (λ x y. x + y) c.rate.ensures c.charge-into-charge.ensures.is in
+    let shift = c.rate.result + c.charge_into-charge.result in
+    let shift_is : shift ≡ c.args.offer.rate + (rules_of t).charge c.loop-earlier.earlier c.args.grade = ap₂ (λ x y. x + y) c.rate.ensures c.charge_into-charge.ensures.is in
     elim c.if-shift-width.branch [
       | then-shift-width w ↦ (
-          let o : Outside m c.args.at c.width-width.result c.loop-earlier.places w.relax-row.new.places = record { before = λ k h. w.relax-row.ensures.before k (omega arith); after = w.relax-row.ensures.after } in
-          rw w.places-is (outside_then m _ _ _ _ _ inv.0 o, λ block prior blocks offered column. turned laws t block _ c.args.grade c.args.offer c.requires.grade offered c.args.before c.args.at c.loop-earlier.earlier c.width-width.result shift w.distortion.result w-is shift_is w.distortion.ensures _ _ _ column lt c.requires.apart inv.0 w.relax-row.ensures.before w.relax-row.ensures.row (inv.1 block prior blocks offered column)))
+          let o : Outside m c.args.at c.width-width.result c.loop-earlier.places w.relax_row.new.places = record { before = λ k h. w.relax_row.ensures.before k (omega arith); after = w.relax_row.ensures.after } in
+          rw w.places-is (outside_then m _ _ _ _ _ inv.0 o, λ block prior blocks offered column. turned laws t block _ c.args.grade c.args.offer c.requires.grade offered c.args.before c.args.at c.loop-earlier.earlier c.width-width.result shift w.distortion.result w-is shift_is w.distortion.ensures _ _ _ column lt c.requires.apart inv.0 w.relax_row.ensures.before w.relax_row.ensures.row (inv.1 block prior blocks offered column)))
       | else-shift-width w ↦
           rw w.places-is (inv.0, λ block prior blocks offered column. passed laws t block _ c.args.grade c.args.offer c.requires.grade offered c.args.before c.args.at c.loop-earlier.earlier c.width-width.result shift c.args.offer.distortion w-is shift_is refl _ w.if-shift-width.false (inv.1 block prior blocks offered column))
     ]
@@ -40,7 +40,7 @@ returns g c =
     let m = g.K.Kind.model in
     let t = c.args.terms.now in
     let w-is = c.width-width.ensures.is in
-    let cleared = c.clear-row.ensures.outside in
+    let cleared = c.clear_row.ensures.outside in
     let inv = c.loop-earlier.invariant in
     let end : c.loop-earlier.earlier ≡ t.grades = omega arith in
     record {

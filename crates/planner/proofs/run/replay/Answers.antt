@@ -43,9 +43,9 @@ loop-call-preserved g c =
           ))
       | in-TakeBack w ↦ (
           let st : State m means terms end most start (TakeBack ∷ rest) p.tables p.places.now = subst (λ cs. State m means terms end most start cs p.tables p.places.now) (next_call calls i c.call-item.result TakeBack c.loop-call-test.true c.call-item.is w.in-TakeBack.is) inv.1 in (
-            ap (λ q. q.places.ghost_name) w.planner-is ∙ w.take-back.ensures.same ∙ inv.0,
+            ap (λ q. q.places.ghost_name) w.planner-is ∙ w.take_back.ensures.same ∙ inv.0,
             subst (λ q. State m means terms end most start rest q.tables q.places.now) (sym w.planner-is)
-                (back_turn m means terms end most start rest p.tables w.take-back.new.self.tables p.places.now w.take-back.new.self.places.now w.take-back.result w.take-back.ensures.refused w.take-back.ensures.left w.take-back.ensures.places st),
+                (back_turn m means terms end most start rest p.tables w.take_back.new.self.tables p.places.now w.take_back.new.self.places.now w.take_back.result w.take_back.ensures.refused w.take_back.ensures.left w.take_back.ensures.places st),
           ))
       | in-Ask w ↦ (
           let call = Ask w.in-Ask.question in

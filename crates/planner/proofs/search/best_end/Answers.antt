@@ -53,7 +53,7 @@ loop-grade-preserved g c =
     let t = c.args.terms.now in
     let b = c.loop-bits.bits in
     let k = c.loop-grade.grade in
-    let kept = c.keep-best.ensures ∙ ap (λ p. kept_end m c.loop-grade.best b k p) c.place-at-place.ensures in
+    let kept = c.keep-best.ensures ∙ ap (λ p. kept_end m c.loop-grade.best b k p) c.place_at-place.ensures in
     subst (λ r. Seen m t c.args.places.now c.args.base (Part t.grades b (k + 1)) r) (sym kept)
     (seen_same m t c.args.places.now c.args.base _ (Part t.grades b (k + 1)) _ (part_in t.grades b k) (part_out t.grades b k) (seen_more g.met.K.Kind.ordered t c.args.places.now c.args.base (Part t.grades b k) b k (part_order t.grades b k) c.loop-grade.best c.loop-grade.invariant))
 

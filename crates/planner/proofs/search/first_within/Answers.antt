@@ -8,20 +8,20 @@ use Rattle.planner.specs.Search.{FirstWithin, Within}
 use Rattle.trellis.specs.Places.{unreached}
 use Rattle.planner.proofs.Rows.{row_below}
 use Rattle.planner.proofs.search.first_within.Goals as goal
-use Rattle.planner.proofs.search.first_within.Goals.{else-place-via-then-place+else-no-dearer, else-place-via-else-place}
+use Rattle.planner.proofs.search.first_within.Goals.{else-place-via-then-place+else-no_dearer, else-place-via-else-place}
 
 pub loop-grade-preserved : goal.loop-grade-preserved
 loop-grade-preserved g c =
     let m = g.K.Kind.model in
     let t = c.args.terms.now in
-    let p = c.place-at-place.result in
-    let is = c.place-at-place.ensures in (
+    let p = c.place_at-place.result in
+    let is = c.place_at-place.ensures in (
       c.loop-grade.invariant.0,
       below_more _ _ c.loop-grade.invariant.1 (λ h.
           let reached = ap (λ x. x.reached) is ∙ h.0 in
           let cheap = ap (λ x. m.ranks x.cost c.args.bound) is ∙ h.1 in
           elim c.else-place.branch [
-            | else-place-via-then-place+else-no-dearer w ↦ (let z : ◌≡◌ {A = ℕ} 0 1 = cc (w.if-no-dearer.false, w.no-dearer.ensures, cheap) in omega arith)
+            | else-place-via-then-place+else-no_dearer w ↦ (let z : ◌≡◌ {A = ℕ} 0 1 = cc (w.if-no_dearer.false, w.no_dearer.ensures, cheap) in omega arith)
             | else-place-via-else-place w ↦ (let z : ◌≡◌ {A = ℕ} 0 1 = cc (w.if-place.false, reached) in omega arith)
           ]),
     )
@@ -33,11 +33,11 @@ seek-preserved g c =
 pub returns-after-seek : goal.returns-after-seek
 returns-after-seek g c = rw c.seek.invariant.0 (λ b k lt-b lt-k. c.seek.invariant.1 b k (omega (arith, c.width-width.ensures.is)) (omega arith))
 
-pub returns-then-no-dearer : goal.returns-then-no-dearer
-returns-then-no-dearer g c =
+pub returns-then-no_dearer : goal.returns-then-no_dearer
+returns-then-no_dearer g c =
     let m = g.K.Kind.model in
     let t = c.args.terms.now in
-    let p = c.place-at-place.result in
-    let is = c.place-at-place.ensures in
-    let ranked : m.ranks p.cost c.args.bound ≡ _ = sym c.no-dearer.ensures ∙ c.if-no-dearer.true in
+    let p = c.place_at-place.result in
+    let is = c.place_at-place.ensures in
+    let ranked : m.ranks p.cost c.args.bound ≡ _ = sym c.no_dearer.ensures ∙ c.if-no_dearer.true in
     (omega arith, (c.loop-grade.grade, omega arith, (sym (ap (λ x. x.reached) is) ∙ c.if-place.true, sym (ap (λ x. m.ranks x.cost c.args.bound) is) ∙ ranked)), λ b k lt-b lt-k. c.seek.invariant.1 b k lt-b (omega arith))

@@ -8,8 +8,8 @@ use Rattle.planner.proofs.search.place_at.Goals as goal
 inside : (base grade grades bits w width len : ℕ) → base + grades * width ≤ len → grade < grades → bits < w → w ≡ width → base + (grade * w + bits) < len
 inside base grade grades bits w width len fits lt through w-is = omega (arith, row_below grade grades w lt, ap (λ x. grades * x) w-is)
 
-pub offset-bounds-places-base : goal.offset-bounds-places-base
-offset-bounds-places-base g c =
+pub offset_bounds-places-base : goal.offset_bounds-places-base
+offset_bounds-places-base g c =
     let t = c.args.terms.now in
     let i = inside c.args.base c.args.grade t.grades c.args.bits c.width.result (width_of t) (length c.args.places.now) c.requires.fits c.requires.grade (omega arith) c.width.ensures.is in
     omega arith

@@ -23,17 +23,17 @@ returns g c =
     let base-is : t.standing * c.size-size.result ≡ t.standing * size_of t.terms = ap (λ x. t.standing * x) size_is in
     let room : (t.standing + 1) * size_of t.terms ≤ length c.args.places.now = omega (arith, add-mul t.standing 1 (size_of t.terms), one-mul (size_of t.terms)) in
     let within : t.standing < length t.blocks = omega arith in
-    let wrote : Outside m (t.standing * c.size-size.result) (size_of t.terms) c.args.places.now c.write-column.new.places = c.write-column.ensures.outside in
-    let block = c.offers-below-block.result in
+    let wrote : Outside m (t.standing * c.size-size.result) (size_of t.terms) c.args.places.now c.write_column.new.places = c.write_column.ensures.outside in
+    let block = c.offers_below-block.result in
     let means = g.S.Source.means c.args.source.now in
-    let offers-are : block ≡ offers_below means t.terms.grades = c.offers-below-block.ensures ∙ ap (λ n. offers_below means n) c.grades.ensures.is in
+    let offers-are : block ≡ offers_below means t.terms.grades = c.offers_below-block.ensures ∙ ap (λ n. offers_below means n) c.grades.ensures.is in
     record {
       fits = omega arith;
       refused = add_good t.terms (length c.args.places.now) t.standing (offers_below means t.terms.grades) (omega arith) room;
       left = record {
         terms = refl;
         standing = pushed t.standing t.blocks block within ∙ ap (λ b. b ∷ standing_blocks t) offers-are;
-        written = subst (λ x. Outside m x (size_of t.terms) c.args.places.now c.write-column.new.places) base-is wrote;
-        sound = grown m t.terms t.standing _ t.blocks block _ _ within base-is wrote c.write-column.ensures.column;
+        written = subst (λ x. Outside m x (size_of t.terms) c.args.places.now c.write_column.new.places) base-is wrote;
+        sound = grown m t.terms t.standing _ t.blocks block _ _ within base-is wrote c.write_column.ensures.column;
       };
     }

@@ -14,11 +14,11 @@ use Rattle.planner.proofs.steps.fewest_bits.Goals as goal
 none_stand : {X : Type 0} (n : ℕ) (xs : List X) → n ≡ 0 → [] ≡ reverse (take n xs)
 none_stand n xs e = ap (λ k. reverse (take k xs)) (sym e)
 
-pub returns-then-no-dearer : goal.returns-then-no-dearer
-returns-then-no-dearer g c =
+pub returns-then-no_dearer : goal.returns-then-no_dearer
+returns-then-no_dearer g c =
     let m = g.K.Kind.model in
     let t = c.args.tables.now in
-    let start-cheap : NoDearer m m.start c.args.bound = ap (λ v. m.ranks v c.args.bound) (sym c.start.ensures) ∙ sym c.no-dearer.ensures ∙ c.if-no-dearer.true in
+    let start-cheap : NoDearer m m.start c.args.bound = ap (λ v. m.ranks v c.args.bound) (sym c.start.ensures) ∙ sym c.no_dearer.ensures ∙ c.if-no_dearer.true in
     record {
       refused = tt;
       answer = λ _. subst (λ bs. Fewest m (rules_of t.terms) t.terms.ceiling bs c.args.bound 0) (none_stand t.standing t.blocks c.if-standing-eq0.true) (record {
@@ -28,11 +28,11 @@ returns-then-no-dearer g c =
       });
     }
 
-pub returns-else-no-dearer : goal.returns-else-no-dearer
-returns-else-no-dearer g c =
+pub returns-else-no_dearer : goal.returns-else-no_dearer
+returns-else-no_dearer g c =
     let m = g.K.Kind.model in
     let t = c.args.tables.now in
-    record { refused = refl; answer = λ _. (subst (λ bs. NoneWithin m (rules_of t.terms) t.terms.ceiling bs c.args.bound) (none_stand t.standing t.blocks c.if-standing-eq0.true) (λ gs b cost ch le cheap. (let e = empty_only ch in let z : ◌≡◌ {A = ℕ} 0 1 = cc (e.1, cheap, c.start.ensures, c.no-dearer.ensures, c.if-no-dearer.false) in omega arith))) }
+    record { refused = refl; answer = λ _. (subst (λ bs. NoneWithin m (rules_of t.terms) t.terms.ceiling bs c.args.bound) (none_stand t.standing t.blocks c.if-standing-eq0.true) (λ gs b cost ch le cheap. (let e = empty_only ch in let z : ◌≡◌ {A = ℕ} 0 1 = cc (e.1, cheap, c.start.ensures, c.no_dearer.ensures, c.if-no_dearer.false) in omega arith))) }
 
 pub returns-in-Some : goal.returns-in-Some
 returns-in-Some g c =

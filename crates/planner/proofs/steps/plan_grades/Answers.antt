@@ -49,13 +49,13 @@ returns-in-Some g c =
     let end = c.in-Some.end in
     let at : place_in m t.terms c.args.places.now (n * c.size.result) end.grade end.bits ≡ place_in m t.terms c.args.places.now (n * size_of t.terms) end.grade end.bits = ap (λ k. place_in m t.terms c.args.places.now k end.grade end.bits) (sym base-is) in
     record {
-      frame = given _ t.standing c.args.out.now _ _ (asked t.terms t.standing c.args.budget (length c.args.out.now) (omega arith) (omega arith)) c.walk-back.ensures.later;
+      frame = given _ t.standing c.args.out.now _ _ (asked t.terms t.standing c.args.budget (length c.args.out.now) (omega arith) (omega arith)) c.walk_back.ensures.later;
       answer = λ sound.
           let column : Column m t.terms (get_or t.blocks n [] ∷ reverse (take n t.blocks)) (n * c.size.result) c.args.places.now = subst (λ k. Column m t.terms (get_or t.blocks n [] ∷ reverse (take n t.blocks)) k c.args.places.now) base-is (last_column m t.terms _ n t.blocks within (subst (λ k. Columns m t.terms (reverse (take k t.blocks)) c.args.places.now) (sym e) sound)) in
-          let way : WayBack m (rules_of t.terms) (standing_blocks t) (reverse (take t.standing c.walk-back.new.out)) end.bits end.cost = subst (λ v. WayBack m (rules_of t.terms) (standing_blocks t) (reverse (take t.standing c.walk-back.new.out)) end.bits v) (sym (seen.2 ∙ ap (λ p. p.cost) at)) (c.walk-back.ensures.way sound (sym (ap (λ p. p.reached) at) ∙ seen.1)) in
+          let way : WayBack m (rules_of t.terms) (standing_blocks t) (reverse (take t.standing c.walk_back.new.out)) end.bits end.cost = subst (λ v. WayBack m (rules_of t.terms) (standing_blocks t) (reverse (take t.standing c.walk_back.new.out)) end.bits v) (sym (seen.2 ∙ ap (λ p. p.cost) at)) (c.walk_back.ensures.way sound (sym (ap (λ p. p.reached) at) ∙ seen.1)) in
           let start : Start m (rules_of t.terms) (standing_blocks t) c.args.budget end.grade end.bits end.cost = subst (λ bs. Start m (rules_of t.terms) bs c.args.budget end.grade end.bits end.cost) (sym stand) (ends_start g.met.K.Kind.ordered t.terms c.args.places.now _ _ (n * c.size.result) column c.args.budget end (omega arith) seen) in
-          let out = c.walk-back.new.out in
-          let heads : reverse (take t.standing out) ≡ end.grade ∷ reverse (take n out) = ap (λ k. reverse (take k out)) (sym e) ∙ newest_first out n 0 (omega arith) ∙ ap (λ x. x ∷ reverse (take n out)) c.walk-back.ensures.end in
+          let out = c.walk_back.new.out in
+          let heads : reverse (take t.standing out) ≡ end.grade ∷ reverse (take n out) = ap (λ k. reverse (take k out)) (sym e) ∙ newest_first out n 0 (omega arith) ∙ ap (λ x. x ∷ reverse (take n out)) c.walk_back.ensures.end in
           subst (λ gs. Named m (rules_of t.terms) c.args.budget (standing_blocks t) gs end.bits end.cost) (sym heads) (some start (subst (λ gs. WayBack m (rules_of t.terms) (standing_blocks t) gs end.bits end.cost) heads way));
     }
 

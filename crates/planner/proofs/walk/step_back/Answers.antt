@@ -23,18 +23,18 @@ bounds t standing n sz len fits lt pos sz-is =
     let after = row_below n standing (size_of t) lt in
     record { here = omega arith; one = omega arith; before = omega arith; before_is = omega arith; here_is = here_is }
 
-pub place-at-cost-requires : goal.place-at-cost-requires
-place-at-cost-requires g c =
+pub place_at-cost-requires : goal.place_at-cost-requires
+place_at-cost-requires g c =
     let t = c.args.tables.now in
     record { fits = (bounds t.terms t.standing c.args.n c.size-size.result (length c.args.places.now) c.requires.fits c.requires.stands c.requires.later c.size-size.ensures.is).here; grade = c.requires.grade; bits = c.requires.bits }
 
-pub overflow-sub-here : goal.overflow-sub-here
-overflow-sub-here g c =
+pub overflow_sub-here : goal.overflow_sub-here
+overflow_sub-here g c =
     let t = c.args.tables.now in
     (bounds t.terms t.standing c.args.n c.size-size.result (length c.args.places.now) c.requires.fits c.requires.stands c.requires.later c.size-size.ensures.is).one
 
-pub grade-before-before-requires : goal.grade-before-before-requires
-grade-before-before-requires g c =
+pub grade_before-before-requires : goal.grade_before-before-requires
+grade_before-before-requires g c =
     let t = c.args.tables.now in
     record { fits = (bounds t.terms t.standing c.args.n c.size-size.result (length c.args.places.now) c.requires.fits c.requires.stands c.requires.later c.size-size.ensures.is).before; grade = c.requires.grade; bits = c.requires.bits }
 
@@ -46,14 +46,14 @@ returns-in-Some g c =
     let grade = c.args.grade in
     let bits = c.args.bits in
     let offer = c.in-Some.offer in
-    let before = c.grade-before-before.result in
+    let before = c.grade_before-before.result in
     let b = bounds t.terms t.standing c.args.n c.size-size.result (length places) c.requires.fits c.requires.stands c.requires.later c.size-size.ensures.is in
-    let cost_is = ap (λ p. p.cost) (c.place-at-cost.ensures ∙ ap (λ k. place_in m t.terms places k grade bits) b.here_is) in
-    let left : c.saturating-sub.result ≡ bits - (offer.rate + (rules_of t.terms).charge before grade) = c.saturating-sub.ensures ∙ ap₂ (λ x y. bits - (x + y)) c.rate.ensures c.charge-into-charge.ensures.is in
+    let cost_is = ap (λ p. p.cost) (c.place_at-cost.ensures ∙ ap (λ k. place_in m t.terms places k grade bits) b.here_is) in
+    let left : c.saturating_sub.result ≡ bits - (offer.rate + (rules_of t.terms).charge before grade) = c.saturating_sub.ensures ∙ ap₂ (λ x y. bits - (x + y)) c.rate.ensures c.charge_into-charge.ensures.is in
     record {
-      below = c.grade-before-before.ensures.below;
+      below = c.grade_before-before.ensures.below;
       through = omega (arith, left);
-      back = λ prior rest. stepped g.met.K.Kind.ordered t.terms places (get_or t.blocks c.args.n []) prior rest c.args.n grade bits offer c.place-at-cost.result.cost _ before c.saturating-sub.result b.before_is cost_is left c.in-Some.is c.requires.grade (omega arith) c.grade-before-before.ensures.below (c.grade-before-before.ensures.leads, c.grade-before-before.ensures.lowest);
+      back = λ prior rest. stepped g.met.K.Kind.ordered t.terms places (get_or t.blocks c.args.n []) prior rest c.args.n grade bits offer c.place_at-cost.result.cost _ before c.saturating_sub.result b.before_is cost_is left c.in-Some.is c.requires.grade (omega arith) c.grade_before-before.ensures.below (c.grade_before-before.ensures.leads, c.grade_before-before.ensures.lowest);
     }
 
 pub returns-in-None : goal.returns-in-None

@@ -20,13 +20,13 @@ loop-n-preserved g c =
     let start = place_in m t.terms c.args.places.now ((t.standing - 1) * size_of t.terms) c.args.grade c.args.bits in
     let n-is : n + 1 ≡ c.loop-n.n = omega arith in
     let wrote : newer t.standing n (set c.loop-n.out n c.loop-n.grade) ≡ newer t.standing c.loop-n.n c.loop-n.out ++ (c.loop-n.grade ∷ []) = newer_step t.standing n c.loop-n.out c.loop-n.grade (omega arith) (omega arith) ∙ ap (λ k. newer t.standing k c.loop-n.out ++ (c.loop-n.grade ∷ [])) n-is in (
-      c.step-back-before.ensures.below,
-      c.step-back-before.ensures.through,
+      c.step_back-before.ensures.below,
+      c.step_back-before.ensures.through,
       omega arith,
       λ k h. (let ne : k ≢ n = omega arith in get_or-set_other _ _ _ _ 0 ne ∙ inv.3 k h),
       (let ne : t.standing - 1 ≢ n - 1 = omega arith in get_or-set_other _ _ _ _ 0 ne ∙ inv.4),
-      λ sound reached. subst (λ ls. At m t.terms c.args.places.now t.blocks t.standing c.args.bits start.cost (n - 1) c.step-back-before.result.0 c.step-back-before.result.1 ls) (sym wrote)
-          (at_step g.met.K.Kind.ordered t.terms c.args.places.now t.blocks t.standing (omega arith) sound c.args.bits start.cost n c.loop-n.grade c.loop-n.bits _ _ _ (omega arith) (omega arith) c.step-back-before.ensures.back (inv.5 sound reached)),
+      λ sound reached. subst (λ ls. At m t.terms c.args.places.now t.blocks t.standing c.args.bits start.cost (n - 1) c.step_back-before.result.0 c.step_back-before.result.1 ls) (sym wrote)
+          (at_step g.met.K.Kind.ordered t.terms c.args.places.now t.blocks t.standing (omega arith) sound c.args.bits start.cost n c.loop-n.grade c.loop-n.bits _ _ _ (omega arith) (omega arith) c.step_back-before.ensures.back (inv.5 sound reached)),
     )
 
 pub returns : goal.returns

@@ -26,24 +26,24 @@ returns-then-blocks-gt64 g c =
 pub loop-n-init : goal.loop-n-init
 loop-n-init g c = (omega arith, refl, subst (λ v. Choice g.K.Kind.model (rules_of c.args.terms.now) [] [] 0 v) (sym c.start-cost.ensures) empty)
 
-pub returns-in-err-offer : goal.returns-in-err-offer
-returns-in-err-offer g c =
+pub returns-in_err-offer : goal.returns-in_err-offer
+returns-in_err-offer g c =
     let blocks = c.args.blocks.now in
     let grades = c.args.grades.now in
     let rules = rules_of c.args.terms.now in
     let n = c.loop-n.n in
     record {
       counted =
-          rw c.from-residual.ensures
+          rw c.from_residual.ensures
           (counted_none g.K.Kind.model rules blocks grades
           (λ few b v choice.
-          not_offered rules (get_or blocks n []) (get_or grades n 0) (sym c.offered.ensures ∙ c.in-err-offer.was)
+          not_offered rules (get_or blocks n []) (get_or grades n 0) (sym c.offered.ensures ∙ c.in_err-offer.was)
           (offered_from_first g.K.Kind.model rules blocks grades choice n c.loop-n-test.true)));
       once = counts_once g.K.Kind.model;
     }
 
-pub overflow-add-bits-in-loop-n : goal.overflow-add-bits-in-loop-n
-overflow-add-bits-in-loop-n g c = let few = c.loop-n.invariant.0 in let low = c.charge-into.ensures.low in search rules
+pub overflow_add-bits-in-loop-n : goal.overflow_add-bits-in-loop-n
+overflow_add-bits-in-loop-n g c = let few = c.loop-n.invariant.0 in let low = c.charge_into.ensures.low in search rules
 
 pub loop-n-preserved : goal.loop-n-preserved
 loop-n-preserved g c =
@@ -52,12 +52,12 @@ loop-n-preserved g c =
     let rules = rules_of c.args.terms.now in
     let n = c.loop-n.n in
     let grade = get_or grades n 0 in
-    let offer = c.in-ok-offer.offer in
+    let offer = c.in_ok-offer.offer in
     let hg : n < length grades = omega arith in
-    let through = let_through (ltb grade rules.grades) (offer_at (get_or blocks n []) grade) offer (sym c.offered.ensures ∙ c.in-ok-offer.was) in
+    let through = let_through (ltb grade rules.grades) (offer_at (get_or blocks n []) grade) offer (sym c.offered.ensures ∙ c.in_ok-offer.was) in
     let few = c.loop-n.invariant.0 in
-    let low = c.charge-into.ensures.low in
-    let charge : c.charge-into.result ≡ charge_into rules (newest (reverse (take n grades))) grade = c.charge-into.ensures.is ∙ ap (λ before. charge_into rules before grade) c.loop-n.invariant.1 in
+    let low = c.charge_into.ensures.low in
+    let charge : c.charge_into.result ≡ charge_into rules (newest (reverse (take n grades))) grade = c.charge_into.ensures.is ∙ ap (λ before. charge_into rules before grade) c.loop-n.invariant.1 in
     let rate = c.rate.ensures in (
       search rules,
       rw (newest_first grades n 0 hg) refl,

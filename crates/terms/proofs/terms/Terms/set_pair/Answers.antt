@@ -8,14 +8,14 @@ returns c =
     let rows = c.args.self.now.charges in
     let from = c.args.from in
     let to = c.args.to in
-    let charge = c.in-ok-charge.charge in
+    let charge = c.in_ok-charge.charge in
     record {
       refused = search rules;
       left = record {
         grades_is = refl;
         ceiling_is = refl;
         charged = λ a b.
-            put_charge (entry rows a b) _ a b from to charge c.args.charge (search rules) (search rules) c.in-ok-charge.ensures.same
+            put_charge (entry rows a b) _ a b from to charge c.args.charge (search rules) (search rules) c.in_ok-charge.ensures.same
             (put_at rows from to charge (search rules) (search (rules, Below-row)) a b);
       };
     }
