@@ -59,7 +59,7 @@ loop-n-preserved g c =
     let low = c.charge_into.ensures.low in
     let charge : c.charge_into.result ≡ charge_into rules (newest (reverse (take n grades))) grade = c.charge_into.ensures.is ∙ ap (λ before. charge_into rules before grade) c.loop-n.invariant.1 in
     let rate = c.rate.ensures in (
-      search rules,
+      omega (arith, few, low, rate),
       rw (newest_first grades n 0 hg) refl,
       as_counted g.K.Kind.model rules
           (more g.K.Kind.model rules blocks grades n offer c.loop-n-test.true hg c.loop-n.invariant.2 (ltb-true grade rules.grades through.0) through.1)
