@@ -14,8 +14,8 @@ record Bounds (t : Terms) (n sz len : ℕ) : Type 0 where
   before_is : n * sz - sz ≡ (n - 1) * size_of t
   here_is : n * sz ≡ n * size_of t
 
-bounds : (t : Terms) (standing n sz len : ℕ) → standing * size_of t ≤ len → n < standing → 0 < n → sz ≡ size_of t → Bounds t n sz len
-bounds t standing n sz len fits lt pos sz-is =
+within_places : (t : Terms) (standing n sz len : ℕ) → standing * size_of t ≤ len → n < standing → 0 < n → sz ≡ size_of t → Bounds t n sz len
+within_places t standing n sz len fits lt pos sz-is =
     let here_is : n * sz ≡ n * size_of t = ap (λ x. n * x) sz-is in
     let n-is : (n - 1) + 1 ≡ n = omega arith in
     let split : n * size_of t ≡ (n - 1) * size_of t + 1 * size_of t = ap (λ k. k * size_of t) (sym n-is) ∙ add-mul (n - 1) 1 (size_of t) in
@@ -26,17 +26,17 @@ bounds t standing n sz len fits lt pos sz-is =
 pub place_at-cost-requires : goal.place_at-cost-requires
 place_at-cost-requires g c =
     let t = c.args.tables.now in
-    record { fits = (bounds t.terms t.standing c.args.n c.size-size.result (length c.args.places.now) c.requires.fits c.requires.stands c.requires.later c.size-size.ensures.is).here; grade = c.requires.grade; bits = c.requires.bits }
+    record { fits = (within_places t.terms t.standing c.args.n c.size-size.result (length c.args.places.now) c.requires.fits c.requires.stands c.requires.later c.size-size.ensures.is).here; grade = c.requires.grade; bits = c.requires.bits }
 
 pub overflow_sub-here : goal.overflow_sub-here
 overflow_sub-here g c =
     let t = c.args.tables.now in
-    (bounds t.terms t.standing c.args.n c.size-size.result (length c.args.places.now) c.requires.fits c.requires.stands c.requires.later c.size-size.ensures.is).one
+    (within_places t.terms t.standing c.args.n c.size-size.result (length c.args.places.now) c.requires.fits c.requires.stands c.requires.later c.size-size.ensures.is).one
 
 pub grade_before-before-requires : goal.grade_before-before-requires
 grade_before-before-requires g c =
     let t = c.args.tables.now in
-    record { fits = (bounds t.terms t.standing c.args.n c.size-size.result (length c.args.places.now) c.requires.fits c.requires.stands c.requires.later c.size-size.ensures.is).before; grade = c.requires.grade; bits = c.requires.bits }
+    record { fits = (within_places t.terms t.standing c.args.n c.size-size.result (length c.args.places.now) c.requires.fits c.requires.stands c.requires.later c.size-size.ensures.is).before; grade = c.requires.grade; bits = c.requires.bits }
 
 pub returns-in-Some : goal.returns-in-Some
 returns-in-Some g c =
@@ -47,7 +47,7 @@ returns-in-Some g c =
     let bits = c.args.bits in
     let offer = c.in-Some.offer in
     let before = c.grade_before-before.result in
-    let b = bounds t.terms t.standing c.args.n c.size-size.result (length places) c.requires.fits c.requires.stands c.requires.later c.size-size.ensures.is in
+    let b = within_places t.terms t.standing c.args.n c.size-size.result (length places) c.requires.fits c.requires.stands c.requires.later c.size-size.ensures.is in
     let cost_is = ap (λ p. p.cost) (c.place_at-cost.ensures ∙ ap (λ k. place_in m t.terms places k grade bits) b.here_is) in
     let left : c.saturating_sub.result ≡ bits - (offer.rate + (rules_of t.terms).charge before grade) = c.saturating_sub.ensures ∙ ap₂ (λ x y. bits - (x + y)) c.rate.ensures c.charge_into-charge.ensures.is in
     record {
