@@ -1,5 +1,5 @@
 -- Ranking by the worst distortion first and the total second keeps no laws. Assumes nothing.
-use Rattle.std.specs.Prelude.{◌≡◌, ℕ, ◌+◌, max, false, ◌&&◌, ◌||◌, ◌==◌, nat_le, nat_lt}
+use Rattle.std.specs.Prelude.{◌≡◌, ◌+◌, max, false, ◌&&◌, ◌||◌, ◌==◌, nat_le, nat_lt}
 use Rattle.costs.specs.Model.{Model, NoDearer, Ordered}
 use Rattle.costs.specs.declared.no_kind.WorstThenTotal.{WorstThenTotal}
 use Rattle.costs.specs.declared.no_kind.TurnedRound.{TurnedRound}

@@ -1,8 +1,8 @@
 -- Offers that are in range. Assumes nothing.
 use Rattle.std.specs.Prelude.{◌≡◌, ℕ, ◌*◌, ◌<◌, ◌≤◌, Bool, true, false, cond, ◌&&◌, ltb, leb, List, length, Some, None, Option, nat_le, nat_lt, slice_index_or, slice_set, refl}
-use Rattle.std.proofs.Common.{sym, ap, subst, ◌∙◌, ⊎_elim, mul-le-mul, div-le_self, arith}
+use Rattle.std.proofs.Common.{sym, subst, ◌∙◌, ⊎_elim, mul-le-mul, div-le_self, arith}
 use Rattle.std.proofs.lemmas.List.{get_or-set_same, get_or-set_other, get_or_past, set_past}
-use Rattle.std.proofs.lemmas.Bool.{and_parts, leb-true, cases_Bool, cond-false, cases_lt, cases_eq}
+use Rattle.std.proofs.lemmas.Bool.{and_parts, leb-true, cases_Bool, cases_lt, cases_eq}
 use Rattle.offers.specs.declared.offer.Offer.{Offer}
 use Rattle.offers.specs.declared.gain.GainBlock.{GainBlock}
 use Rattle.offers.specs.Offers.{offer_of, InRange, Ranged}

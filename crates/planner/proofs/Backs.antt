@@ -1,18 +1,18 @@
 -- One step back from a reached place. Assumes nothing.
-use Rattle.std.proofs.Common.{◌≡◌, ℕ, suc, ◌+◌, ◌-◌, ◌*◌, ◌<◌, ◌≤◌, Bool, true, false, List, [], ◌∷◌, Some, None, sym, refl, ap, ◌∙◌, subst, ⊎_elim, arith}
+use Rattle.std.proofs.Common.{◌≡◌, ℕ, ◌+◌, ◌-◌, ◌*◌, ◌<◌, true, List, [], ◌∷◌, Some, None, sym, ap, ◌∙◌, subst, ⊎_elim, arith}
 use mathlib.Core.Logic.{∥∥₁_elim}
 use mathlib.Core.HLevel.{⊥_prop}
 use Rattle.costs.specs.Model.{Model, Ordered, NoDearer}
 use Rattle.planner.specs.Layout.{Column, width_of, size_of, place_in}
 use Rattle.planner.specs.Search.{Leads, Back}
 use Rattle.terms.specs.Choice.{Block, Choice, offer_at}
-use Rattle.terms.specs.Choice.Choice.{empty, next}
+use Rattle.terms.specs.Choice.Choice.{next}
 use Rattle.terms.specs.Rules.{Rules, rules_of}
 use Rattle.trellis.proofs.Names.{ranked, best_kept}
 use Rattle.trellis.proofs.Ways.{Last, last, none_offered}
 use Rattle.trellis.specs.Named.{Kept, Gives, WayBack}
 use Rattle.trellis.specs.Named.WayBack.{back as back_to}
-use Rattle.trellis.specs.Places.{Best, Costs}
+use Rattle.trellis.specs.Places.{Costs}
 use Rattle.offers.specs.declared.offer.Offer.{Offer}
 use Rattle.trellis.specs.declared.place.Place.{Place}
 use Rattle.terms.specs.declared.terms.Terms.{Terms}

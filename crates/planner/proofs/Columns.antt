@@ -1,20 +1,19 @@
 -- Columns of places, and the rows that they are made of. Assumes nothing.
-use Rattle.std.proofs.Common.{◌≡◌, ℕ, suc, ◌+◌, ◌-◌, ◌*◌, ◌<◌, ◌≤◌, ◌≢◌, List, [], ◌∷◌, reverse, length, get_or, take, set, Some, None, sym, refl, ap, ◌∙◌, subst, ⊎_elim, suc-mul, add-one, arith, take-suc-set}
+use Rattle.std.proofs.Common.{◌≡◌, ℕ, ◌+◌, ◌-◌, ◌*◌, ◌<◌, ◌≤◌, List, [], ◌∷◌, reverse, length, get_or, take, set, Some, None, sym, ap, ◌∙◌, subst, suc-mul, add-one, arith, take-suc-set}
 use mathlib.Core.List.{reverse-append}
-use Rattle.std.proofs.lemmas.List.{length-reverse, length-take, take_more}
-use Rattle.costs.specs.Model.{Model, Ordered}
+use Rattle.std.proofs.lemmas.List.{length-reverse, length-take}
+use Rattle.costs.specs.Model.{Model}
 use Rattle.planner.specs.Layout.{Outside, Column, PlaceRow, Newest, Columns, width_of, size_of}
-use Rattle.terms.specs.Choice.{Block, Choice, offer_at}
-use Rattle.terms.specs.Choice.Choice.{empty, next}
-use Rattle.terms.specs.Rules.{Rules, charge_into, rules_of}
-use Rattle.trellis.proofs.Bests.{best_same, best_none}
+use Rattle.terms.specs.Choice.{Block, offer_at}
+use Rattle.terms.specs.Rules.{rules_of}
+use Rattle.trellis.proofs.Bests.{best_none}
 use Rattle.trellis.proofs.Ways.{none_offered}
-use Rattle.trellis.specs.Places.{Best, Costs, relaxed, unreached}
+use Rattle.trellis.specs.Places.{Best, Costs, unreached}
 use Rattle.offers.specs.declared.offer.Offer.{Offer}
 use Rattle.trellis.specs.declared.place.Place.{Place}
 use Rattle.terms.specs.declared.terms.Terms.{Terms}
 use Rattle.terms.proofs.Counts.{newest_first}
-use Rattle.planner.proofs.Rows.{row_below, column_before}
+use Rattle.planner.proofs.Rows.{column_before}
 
 module _ {V : Type 0} (m : Model V) (terms : Terms) (old new : List (Place V)) where
   pub none_right : (block : Block) (blocks : List Block) (grade at w : ℕ) → w ≡ width_of terms → offer_at block grade ≡ None → ((b : ℕ) → b < w → get_or new (at + b) (unreached m) ≡ unreached m) → PlaceRow m terms (block ∷ blocks) grade at new

@@ -1,18 +1,18 @@
 -- From what a search finds in the last column to what the choices are. Assumes nothing.
-use Rattle.std.proofs.Common.{◌≡◌, ℕ, suc, ◌+◌, ◌-◌, ◌*◌, ◌<◌, ◌≤◌, Bool, true, false, ◌⊎◌, List, [], ◌∷◌, length, get_or, Some, None, Option, sym, refl, ap, ◌∙◌, subst, inl, inr, ⊎_elim, add_assoc, arith}
+use Rattle.std.proofs.Common.{◌≡◌, ℕ, ◌*◌, ◌<◌, ◌≤◌, true, List, [], ◌∷◌, get_or, Some, None, Option, sym, refl, subst, ⊎_elim, add_assoc, arith}
 use mathlib.Core.Logic.{∥∥₁_map, ∥∥₁_elim}
 use mathlib.Core.HLevel.{⊥_prop}
 use Rattle.std.proofs.lemmas.Bool.{cases_lt, cases_Bool}
-use Rattle.costs.specs.Model.{Model, Ordered, NoDearer, Alike}
+use Rattle.costs.specs.Model.{Model, Ordered, NoDearer}
 use Rattle.planner.specs.Answers.{Fewest, NoneWithin}
 use Rattle.planner.specs.Layout.{Column, width_of, place_in}
 use Rattle.planner.specs.Search.{Within, FirstWithin}
-use Rattle.terms.specs.Choice.{Block, Choice, offer_at}
-use Rattle.terms.specs.Choice.Choice.{empty, next}
+use Rattle.terms.specs.Choice.{Block, Choice}
+use Rattle.terms.specs.Choice.Choice.{empty}
 use Rattle.terms.specs.Rules.{Rules, rules_of}
 use Rattle.trellis.proofs.Names.{ranked, best_kept}
 use Rattle.trellis.proofs.Ways.{last}
-use Rattle.trellis.specs.Named.{Cheapest, NothingFits, Kept, Start}
+use Rattle.trellis.specs.Named.{NothingFits, Kept, Start}
 use Rattle.trellis.specs.Places.{Best, Costs, unreached}
 use Rattle.trellis.specs.declared.place.Place.{Place}
 use Rattle.terms.specs.declared.terms.Terms.{Terms}

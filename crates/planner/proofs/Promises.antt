@@ -1,11 +1,11 @@
 -- The promise, from what plan and fewest ensure. Assumes nothing.
-use Rattle.std.proofs.Common.{◌≡◌, ℕ, ◌*◌, ◌<◌, ◌≤◌, ◌⊎◌, List, [], ◌∷◌, reverse, length, get_or, take, Some, None, Ok, Err, Option, Result, sym, refl, ap, ◌∙◌, subst, inl, inr, ⊎_elim, arith}
+use Rattle.std.proofs.Common.{◌≡◌, ℕ, ◌*◌, ◌≤◌, ◌⊎◌, List, reverse, length, get_or, take, Some, None, Ok, Err, Result, sym, ap, subst, ⊎_elim, arith}
 use mathlib.Core.Logic.{∥∥₁_elim}
 use mathlib.Core.HLevel.{⊥_prop}
 use Rattle.std.proofs.lemmas.Bool.{cases_lt}
 use Rattle.costs.specs.Model.{Model, Ordered, AlikeSame, NoDearer}
 use Rattle.planner.specs.Answers.{Fewest, NoneWithin, Planned, FewestOf, PlanFrame, OnlyRefuses}
-use Rattle.terms.specs.Choice.{Block, Choice}
+use Rattle.terms.specs.Choice.{Block}
 use Rattle.terms.specs.Rules.{Rules, rules_of}
 use Rattle.trellis.proofs.Names.{ranked, named_within, named_cheapest, named_own, best_plan}
 use Rattle.trellis.specs.Named.{Named, NothingFits, BestPlan}

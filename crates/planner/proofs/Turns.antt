@@ -1,5 +1,5 @@
 -- What each call of a run does to the standing blocks and to the places. Assumes nothing.
-use Rattle.std.proofs.Common.{◌≡◌, ℕ, ◌+◌, ◌*◌, ◌<◌, ◌≤◌, max, List, [], ◌∷◌, length, get_or, Some, None, Ok, Err, Option, Result, sym, refl, ap, ◌∙◌, subst, mul-le-mul_right, add-mul, one-mul, arith, MatchResult}
+use Rattle.std.proofs.Common.{◌≡◌, ℕ, ◌+◌, ◌*◌, ◌≤◌, List, [], ◌∷◌, length, get_or, Some, None, Ok, Err, Option, Result, sym, refl, ap, ◌∙◌, subst, mul-le-mul_right, add-mul, one-mul, arith, MatchResult}
 use native.Mathlib.Nat.{le-max_left, le-max_right}
 use Rattle.faults.specs.Refusals.{first, refusal}
 use Rattle.offers.specs.declared.offer.Offer.{Offer}

@@ -1,6 +1,5 @@
 -- The walk back over all standing blocks. Assumes nothing.
-use Rattle.std.proofs.Common.{◌≡◌, ℕ, zero, suc, ◌+◌, ◌-◌, ◌*◌, ◌<◌, ◌≤◌, true, ◌≢◌, List, [], ◌∷◌, ◌++◌, reverse, length, get_or, take, drop, set, sym, refl, ap, ◌∙◌, subst, ⊎_elim, append_assoc, add-one, arith, length-set, length-take}
-use mathlib.Core.Logic.{∥∥₁_map}
+use Rattle.std.proofs.Common.{◌≡◌, ℕ, zero, suc, ◌+◌, ◌-◌, ◌*◌, ◌<◌, ◌≤◌, true, ◌≢◌, List, [], ◌∷◌, ◌++◌, reverse, length, get_or, take, drop, set, sym, ap, ◌∙◌, subst, ⊎_elim, append_assoc, add-one, arith, length-set, length-take}
 use mathlib.Core.List.{reverse-cons}
 use lib.Seq.{drop-length}
 use Rattle.std.proofs.lemmas.List.{drop_more, get_or-take, get_or-set_same, get_or-set_other, get_or-drop, length-drop, ext_get_or}

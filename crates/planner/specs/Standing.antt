@@ -1,5 +1,5 @@
 -- The standing blocks of a planner, and what the places hold of them. Assumes nothing.
-use Rattle.std.specs.Prelude.{◌≡◌, ℕ, ◌*◌, List, ◌∷◌, reverse, take}
+use Rattle.std.specs.Prelude.{◌≡◌, ◌*◌, List, ◌∷◌, reverse, take}
 use Rattle.costs.specs.Model.{Model}
 use Rattle.terms.specs.Choice.{Block}
 use Rattle.trellis.specs.declared.place.Place.{Place}

@@ -1,5 +1,5 @@
 -- What is named: at most one plan, a choice, and the cheapest. Assumes nothing.
-use Rattle.std.proofs.Common.{◌≡◌, ℕ, zero, suc, ◌+◌, ◌-◌, ◌<◌, ◌≤◌, Bool, true, false, ◌⊎◌, List, [], ◌∷◌, Some, None, Option, sym, refl, ap, ◌∙◌, subst, inl, inr, ⊎_elim, add-one, arith}
+use Rattle.std.proofs.Common.{◌≡◌, ℕ, zero, suc, ◌+◌, ◌-◌, ◌<◌, ◌≤◌, true, ◌⊎◌, List, [], ◌∷◌, Some, None, Option, sym, refl, ap, ◌∙◌, subst, inl, inr, ⊎_elim, add-one, arith}
 use mathlib.Core.Logic.{∥∥₁_map, ∥∥₁_elim, ∥∥₁_prop}
 use mathlib.Core.HLevel.{⊥_prop}
 use borrow.Author.Tests.{clash}
@@ -11,11 +11,11 @@ use Rattle.terms.specs.Rules.{Rules, charge_into}
 use Rattle.terms.specs.Choice.{Block, Choice, offer_at}
 use Rattle.terms.specs.Choice.Choice.{empty, next}
 use Rattle.trellis.specs.Places.{Best, Costs, unreached, relaxed}
-use Rattle.trellis.specs.Named.{Kept, Start, Gives, WayBack, Named, Cheapest, BestPlan, NamesOne, NamesBest}
+use Rattle.trellis.specs.Named.{Kept, Gives, WayBack, Named, Cheapest, NamesOne, NamesBest}
 use Rattle.trellis.specs.Named.WayBack.{first, back}
 use Rattle.trellis.specs.Named.Named.{none, some}
-use Rattle.trellis.proofs.Bests.{best_same, best_none, best_one, relax_best, no_dearer_self, Either, Joined}
-use Rattle.trellis.proofs.Ways.{Last, last, Ways, ways_in, ways_out, ways_short, ways_wider, ways_all, all_ways, none_offered, first_in, first_out}
+use Rattle.trellis.proofs.Bests.{best_same, best_none, best_one, relax_best, no_dearer_self}
+use Rattle.trellis.proofs.Ways.{last, Ways, ways_in, ways_out, ways_short, ways_wider, ways_all, all_ways, none_offered, first_in, first_out}
 
 head_same : {g h : ℕ} {gs hs : List ℕ} → g ∷ gs ≡ h ∷ hs → g ≡ h
 head_same e = cc

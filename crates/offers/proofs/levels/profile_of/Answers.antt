@@ -1,4 +1,4 @@
-use Rattle.std.proofs.Common.{refl, mul-le-mul, div-le_self}
+use Rattle.std.proofs.Common.{mul-le-mul}
 use Rattle.offers.proofs.levels.profile_of.Goals as goal
 
 pub nonzero_div-result : goal.nonzero_div-result

@@ -1,4 +1,4 @@
-use Rattle.std.proofs.Common.{◌≡◌, ◌+◌, ◌*◌, ◌<◌, ◌≤◌, ◌∷◌, sym, refl, ap, ◌∙◌, subst, arith, rules, below_more}
+use Rattle.std.proofs.Common.{◌≡◌, ◌+◌, ◌*◌, ◌<◌, ◌∷◌, refl, ap, subst, arith, below_more}
 use Rattle.planner.proofs.Columns.{newest_before, row_before, outside_part}
 use Rattle.planner.specs.Layout.{width_of, size_of, Outside, PlaceRow}
 use Rattle.planner.proofs.Rows.{row_below}

@@ -1,4 +1,4 @@
-use Rattle.std.proofs.Common.{◌≡◌, ℕ, ◌+◌, ◌*◌, ◌<◌, ◌≤◌, List, ◌∷◌, length, get_or}
+use Rattle.std.proofs.Common.{◌≡◌, ℕ, ◌+◌, ◌*◌, ◌<◌, List, ◌∷◌, length}
 use Rattle.planner.specs.Layout.{Outside, Newest, PlaceRow, size_of, width_of}
 use Rattle.terms.specs.Choice.{Block}
 use Rattle.planner.proofs.column.write_column.Given as goal

@@ -1,4 +1,4 @@
-use Rattle.std.proofs.Common.{◌≡◌, ℕ, ◌+◌, ◌*◌, ◌<◌, ◌≤◌, sym, ap, ◌∙◌, subst, mul-le-mul_right, one-mul, arith, rules}
+use Rattle.std.proofs.Common.{◌≡◌, ℕ, ◌*◌, ◌≤◌, ◌∙◌, subst, mul-le-mul_right, one-mul, arith}
 use Rattle.planner.proofs.Columns.{none_right, first_right_of, next_right}
 use Rattle.planner.specs.Layout.{width_of, size_of, Outside}
 use Rattle.planner.proofs.Rows.{row_below}

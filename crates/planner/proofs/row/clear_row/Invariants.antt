@@ -1,4 +1,4 @@
-use Rattle.std.proofs.Common.{◌≡◌, ℕ, ◌+◌, ◌<◌, ◌≤◌, get_or}
+use Rattle.std.proofs.Common.{◌≡◌, ℕ, ◌+◌, ◌<◌, get_or}
 use Rattle.planner.specs.Layout.{Outside}
 use Rattle.trellis.specs.Places.{unreached}
 use Rattle.planner.proofs.row.clear_row.Given as goal

@@ -1,7 +1,7 @@
-use Rattle.std.proofs.Common.{◌≡◌, ◌+◌, ◌*◌, ◌<◌, ◌≤◌, ◌∷◌, get_or, sym, refl, ap, ◌∙◌, subst, ap₂, arith, rules}
+use Rattle.std.proofs.Common.{◌≡◌, ◌+◌, ◌*◌, ◌<◌, ◌∷◌, get_or, refl, ap, subst, ap₂, arith}
 use Rattle.planner.specs.Layout.{Outside}
 use Rattle.terms.specs.Rules.{rules_of}
-use Rattle.trellis.proofs.Bests.{best_none, best_same}
+use Rattle.trellis.proofs.Bests.{best_same}
 use Rattle.trellis.proofs.Ways.{Ways, ways_all, all_ways}
 use Rattle.trellis.specs.Places.{Best, unreached}
 use Rattle.planner.proofs.Rows.{row_below, outside_then, passed, turned, column_before}

@@ -1,4 +1,4 @@
-use Rattle.std.proofs.Common.{◌≡◌, ℕ, ◌+◌, ◌<◌, ◌≤◌, List, ◌∷◌, get_or, Some}
+use Rattle.std.proofs.Common.{◌≡◌, ℕ, ◌+◌, ◌<◌, List, ◌∷◌, get_or, Some}
 use Rattle.planner.specs.Layout.{Outside, Column}
 use Rattle.terms.specs.Choice.{Block, offer_at}
 use Rattle.terms.specs.Rules.{rules_of}

@@ -1,13 +1,6 @@
-use Rattle.std.proofs.Common.{◌≡◌, ℕ, ◌+◌, ◌*◌, ◌<◌, ◌≤◌, ◌⊎◌, List, length, get_or, sym, refl, ap, ◌∙◌, subst, inl, inr, ⊎_elim, arith}
-use Rattle.std.proofs.lemmas.List.{get_or_read}
+use Rattle.std.proofs.Common.{◌≡◌, ℕ, ◌+◌, ◌<◌, ◌≤◌, ◌⊎◌, sym, ap, ◌∙◌, subst, inl, inr, ⊎_elim, arith}
 use Rattle.std.proofs.lemmas.Bool.{cases_lt}
-use Rattle.costs.specs.Model.{Model}
-use Rattle.planner.specs.Layout.{size_of, width_of, place_in}
-use Rattle.trellis.specs.Places.{unreached}
-use Rattle.trellis.specs.declared.place.Place.{Place}
-use Rattle.terms.specs.declared.terms.Terms.{Terms}
 use Rattle.planner.specs.Search.{Seen, kept_end}
-use Rattle.planner.proofs.Rows.{row_below}
 use Rattle.planner.proofs.Sightings.{seen_same, seen_more}
 use Rattle.planner.proofs.search.best_end.Goals as goal
 

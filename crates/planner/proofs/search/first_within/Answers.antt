@@ -1,12 +1,5 @@
-use Rattle.std.proofs.Common.{◌≡◌, ℕ, ◌+◌, ◌*◌, ◌<◌, ◌≤◌, List, length, get_or, sym, refl, ap, ◌∙◌, subst, inl, inr, arith, rules, below_more}
-use Rattle.std.proofs.lemmas.List.{get_or_read}
-use Rattle.trellis.specs.declared.place.Place.{Place}
-use Rattle.terms.specs.declared.terms.Terms.{Terms}
-use Rattle.costs.specs.Model.{Model, NoDearer}
-use Rattle.planner.specs.Layout.{size_of, width_of}
-use Rattle.planner.specs.Search.{FirstWithin, Within}
-use Rattle.trellis.specs.Places.{unreached}
-use Rattle.planner.proofs.Rows.{row_below}
+use Rattle.std.proofs.Common.{◌≡◌, ℕ, ◌<◌, sym, ap, ◌∙◌, arith, below_more}
+use Rattle.planner.specs.Search.{Within}
 use Rattle.planner.proofs.search.first_within.Goals as goal
 use Rattle.planner.proofs.search.first_within.Goals.{else-place-via-then-place+else-no_dearer, else-place-via-else-place}
 

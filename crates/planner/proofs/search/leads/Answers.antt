@@ -1,13 +1,6 @@
-use Rattle.std.proofs.Common.{◌≡◌, ℕ, ◌+◌, ◌-◌, ◌*◌, ◌<◌, ◌≤◌, List, length, get_or, sym, ap, ◌∙◌, ap₂, arith}
-use Rattle.std.proofs.lemmas.List.{get_or_read}
-use Rattle.costs.specs.Model.{Model}
-use Rattle.planner.specs.Layout.{size_of, width_of, place_in}
-use Rattle.terms.specs.Rules.{rules_of}
-use Rattle.trellis.specs.Places.{unreached}
-use Rattle.trellis.specs.declared.place.Place.{Place}
-use Rattle.terms.specs.declared.terms.Terms.{Terms}
+use Rattle.std.proofs.Common.{◌+◌, ◌-◌, sym, ap, ◌∙◌, ap₂, arith}
+use Rattle.planner.specs.Layout.{place_in}
 use borrow.Author.Tests.{clash}
-use Rattle.planner.proofs.Rows.{row_below}
 use Rattle.planner.proofs.search.leads.Goals as goal
 
 pub place_at-place-requires : goal.place_at-place-requires

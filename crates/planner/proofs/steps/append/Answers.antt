@@ -1,4 +1,4 @@
-use Rattle.std.proofs.Common.{◌≡◌, ◌+◌, ◌*◌, ◌<◌, ◌≤◌, ◌∷◌, length, sym, refl, ap, ◌∙◌, subst, add-mul, one-mul, arith}
+use Rattle.std.proofs.Common.{◌≡◌, ◌+◌, ◌*◌, ◌<◌, ◌≤◌, ◌∷◌, length, refl, ap, ◌∙◌, subst, add-mul, one-mul, arith}
 use Rattle.offers.specs.Offers.{offers_below}
 use Rattle.planner.specs.Layout.{size_of, Outside}
 use Rattle.planner.specs.Standing.{standing_blocks}

@@ -1,13 +1,12 @@
-use Rattle.std.proofs.Common.{◌≡◌, ℕ, ◌+◌, ◌-◌, ◌*◌, ◌<◌, ◌≤◌, List, [], ◌∷◌, reverse, length, get_or, take, Some, None, sym, refl, ap, ◌∙◌, subst, arith, rules}
+use Rattle.std.proofs.Common.{◌≡◌, ℕ, ◌+◌, ◌-◌, ◌*◌, ◌<◌, List, [], ◌∷◌, reverse, length, get_or, take, Some, None, sym, refl, ap, ◌∙◌, subst, arith}
 use Rattle.costs.specs.Model.{NoDearer}
 use Rattle.planner.proofs.Columns.{last_column}
 use Rattle.planner.specs.Answers.{Fewest, NoneWithin}
 use Rattle.planner.specs.Layout.{size_of, Columns, Column}
 use Rattle.terms.proofs.Counts.{newest_first}
-use Rattle.terms.specs.Choice.{Block}
 use Rattle.terms.specs.Choice.Choice.{empty}
 use Rattle.terms.specs.Rules.{rules_of}
-use Rattle.planner.specs.Standing.{standing_blocks, Sound}
+use Rattle.planner.specs.Standing.{standing_blocks}
 use Rattle.planner.proofs.Founds.{fewest_is, empty_only}
 use Rattle.planner.proofs.steps.fewest_bits.Goals as goal
 

@@ -1,4 +1,4 @@
-use Rattle.std.proofs.Common.{◌≡◌, ℕ, ◌+◌, ◌-◌, ◌*◌, ◌<◌, ◌≤◌, List, [], ◌∷◌, reverse, length, get_or, take, Ok, Err, Result, sym, refl, ap, ◌∙◌, subst, inl, inr, arith}
+use Rattle.std.proofs.Common.{◌≡◌, ◌+◌, ◌-◌, ◌*◌, ◌<◌, [], ◌∷◌, reverse, length, get_or, take, sym, refl, ap, ◌∙◌, subst, arith}
 use Rattle.planner.proofs.Columns.{last_column}
 use Rattle.planner.specs.Layout.{size_of, Column, Columns, place_in}
 use Rattle.terms.proofs.Counts.{newest_first}

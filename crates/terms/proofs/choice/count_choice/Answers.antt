@@ -1,4 +1,4 @@
-use Rattle.std.proofs.Common.{◌≡◌, ◌+◌, ◌<◌, ◌≤◌, cond, ltb, [], reverse, length, get_or, take, Some, None, sym, refl, ap, ◌∙◌, subst, ⊎_elim, add_assoc, arith, rules}
+use Rattle.std.proofs.Common.{◌≡◌, ◌<◌, ltb, [], reverse, length, get_or, take, sym, refl, ap, ◌∙◌, subst, ⊎_elim, arith, rules}
 use Rattle.std.proofs.lemmas.List.{length-reverse, take_all}
 use Rattle.std.proofs.lemmas.Bool.{ltb-true}
 use Rattle.terms.specs.Rules.{rules_of, charge_into}

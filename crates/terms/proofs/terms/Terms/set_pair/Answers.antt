@@ -1,4 +1,4 @@
-use Rattle.std.proofs.Common.{refl, arith, rules}
+use Rattle.std.proofs.Common.{refl, rules}
 use borrow.Author.Rules.{Below-row}
 use Rattle.terms.proofs.Charges.{entry, put_at, put_charge}
 use Rattle.terms.proofs.terms.Terms.set_pair.Goals as goal
