@@ -35,8 +35,8 @@ loop-byte-preserved c = rw c.from.ensures (sofar_more c.args.field.now c.loop-by
 pub returns-in-Ok : goal.returns-in-Ok
 returns-in-Ok c =
     let h = c.in-Ok.ensures in
-    let some : 0 < length c.args.field.now = omega (arith, false-eqb _ 0 c.if-is-empty.ensures) in
-    let lead : get_or c.args.field.now 0 0 ≡ 48 → length c.args.field.now ≡ 1 = λ e. omega (arith, some, c.leads-with-zero.ensures.not c.if-leads-with-zero.false e) in
+    let some : 0 < length c.args.field.now = omega (arith, false-eqb _ 0 c.if-is_empty.ensures) in
+    let lead : get_or c.args.field.now 0 0 ≡ 48 → length c.args.field.now ≡ 1 = λ e. omega (arith, some, c.leads_with_zero.ensures.not c.if-leads_with_zero.false e) in
     record {
       value = subst (Writes c.args.field.now) (sym h.1) (writes c.args.field.now c.loop-byte.byte-index c.loop-byte.value c.loop-byte.invariant (omega arith) some lead h.0);
       form = writes_form;
