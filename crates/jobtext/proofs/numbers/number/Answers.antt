@@ -5,14 +5,14 @@ use Rattle.jobtext.proofs.NumberLaws.{sofar_none, sofar_more, sofar_small, sofar
 use Rattle.jobtext.proofs.numbers.number.Goals.{then-byte-lt48-via-then-byte-lt48, then-byte-lt48-via-else-byte-lt48+then-byte-gt57}
 use Rattle.jobtext.proofs.numbers.number.Goals as goal
 
-pub returns-then-is-empty : goal.returns-then-is-empty
-returns-then-is-empty c = record {
-  value = ⊎_elim (λ e. none_empty c.args.field.now (eqb-true _ 0 (sym c.is-empty.ensures ∙ e))) (λ h. none_long c.args.field.now h.1) c.then-is-empty.either;
+pub returns-then-is_empty : goal.returns-then-is_empty
+returns-then-is_empty c = record {
+  value = ⊎_elim (λ e. none_empty c.args.field.now (eqb-true _ 0 (sym c.is_empty.ensures ∙ e))) (λ h. none_long c.args.field.now h.1) c.then-is_empty.either;
   form = writes_form;
 }
 
-pub returns-then-leads-with-zero : goal.returns-then-leads-with-zero
-returns-then-leads-with-zero c = let zero = c.leads-with-zero.ensures.does c.if-leads-with-zero.true in record { value = none_zero c.args.field.now zero.0 zero.1; form = writes_form }
+pub returns-then-leads_with_zero : goal.returns-then-leads_with_zero
+returns-then-leads_with_zero c = let zero = c.leads_with_zero.ensures.does c.if-leads_with_zero.true in record { value = none_zero c.args.field.now zero.0 zero.1; form = writes_form }
 
 pub loop-byte-init : goal.loop-byte-init
 loop-byte-init c = sofar_none c.args.field.now
@@ -23,11 +23,11 @@ returns-then-byte-lt48 c = record {
   form = writes_form;
 }
 
-pub overflow-mul-value : goal.overflow-mul-value
-overflow-mul-value c = omega (arith, sofar_small c.args.field.now c.loop-byte.byte-index c.loop-byte.value c.loop-byte.invariant (omega arith))
+pub overflow_mul-value : goal.overflow_mul-value
+overflow_mul-value c = omega (arith, sofar_small c.args.field.now c.loop-byte.byte-index c.loop-byte.value c.loop-byte.invariant (omega arith))
 
-pub overflow-add-value : goal.overflow-add-value
-overflow-add-value c = omega (arith, sofar_small c.args.field.now c.loop-byte.byte-index c.loop-byte.value c.loop-byte.invariant (omega arith))
+pub overflow_add-value : goal.overflow_add-value
+overflow_add-value c = omega (arith, sofar_small c.args.field.now c.loop-byte.byte-index c.loop-byte.value c.loop-byte.invariant (omega arith))
 
 pub loop-byte-preserved : goal.loop-byte-preserved
 loop-byte-preserved c = rw c.from.ensures (sofar_more c.args.field.now c.loop-byte.byte-index c.loop-byte.value c.loop-byte.invariant (omega arith) c.if-byte-lt48.false c.if-byte-gt57.false)
