@@ -1,7 +1,7 @@
-use Rattle.std.proofs.Common.{◌≡◌, ◌^◌, ◌<◌, length, get_or, sym, ◌∙◌, subst, ⊎_elim, arith, eqb-true, false-eqb}
+use Rattle.std.proofs.Common.{◌≡◌, ◌+◌, ◌^◌, ◌<◌, length, get_or, sym, ◌∙◌, subst, ⊎_elim, arith, eqb-true, false-eqb}
 use Rattle.std.proofs.str.Laws.{order}
 use Rattle.jobtext.specs.Numbers.{Writes}
-use Rattle.jobtext.proofs.NumberLaws.{sofar_none, sofar_more, sofar_small, sofar_all, writes, writes_form, none_empty, none_long, none_zero, none_digit, none_big}
+use Rattle.jobtext.proofs.NumberLaws.{Sofar, sofar_none, sofar_more, sofar_small, sofar_all, writes, writes_form, none_empty, none_long, none_zero, none_digit, none_big}
 use Rattle.jobtext.proofs.numbers.number.Goals.{then-byte-lt48-via-then-byte-lt48, then-byte-lt48-via-else-byte-lt48+then-byte-gt57}
 use Rattle.jobtext.proofs.numbers.number.Goals as goal
 
@@ -30,7 +30,11 @@ pub overflow_add-value : goal.overflow_add-value
 overflow_add-value c = omega (arith, sofar_small c.args.field.now c.loop-byte.byte-index c.loop-byte.value c.loop-byte.invariant (omega arith))
 
 pub loop-byte-preserved : goal.loop-byte-preserved
-loop-byte-preserved c = rw c.from.ensures (sofar_more c.args.field.now c.loop-byte.byte-index c.loop-byte.value c.loop-byte.invariant (omega arith) c.if-byte-lt48.false c.if-byte-gt57.false)
+loop-byte-preserved c =
+    subst
+    (Sofar c.args.field.now (c.loop-byte.byte-index + 1))
+    (omega (arith, c.from.ensures))
+    (sofar_more c.args.field.now c.loop-byte.byte-index c.loop-byte.value c.loop-byte.invariant (omega arith) c.if-byte-lt48.false c.if-byte-gt57.false)
 
 pub returns-in-Ok : goal.returns-in-Ok
 returns-in-Ok c =
