@@ -1,4 +1,6 @@
 // The text of a job: its lines, the fields of a line, and what a field can be.
+#![tactic(auto)]
+
 mod fault;
 mod kind;
 mod lines;

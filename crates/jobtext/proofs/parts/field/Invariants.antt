@@ -1,4 +1,4 @@
-use Rattle.std.proofs.Common.{◌≡◌, ◌+◌, ◌≤◌, length, drop}
+use Rattle.std.proofs.Common.{◌≡◌, drop}
 use Rattle.jobtext.specs.Parts.{parts}
 use Rattle.jobtext.proofs.parts.field.Given as goal
 

@@ -1,4 +1,4 @@
-use Rattle.std.proofs.Common.{◌≡◌, [], ◌∷◌, length, get_or, sym, ap, ◌∙◌, arith, ltb-false, ltb-true}
+use Rattle.std.proofs.Common.{◌≡◌, [], ◌∷◌, length, sym, ap, ◌∙◌, arith, ltb-false, ltb-true}
 use Rattle.jobtext.proofs.TokenLaws.{one_byte}
 use Rattle.jobtext.proofs.token.letter_of.Goals as goal
 

@@ -1,4 +1,4 @@
-use Rattle.std.proofs.Common.{◌≡◌, [], ◌∷◌, length, get_or, sym, refl, ap, ◌∙◌, arith, rules, ltb-false, ltb-true}
+use Rattle.std.proofs.Common.{◌≡◌, [], ◌∷◌, length, get_or, refl, ap, ◌∙◌, arith, rules, ltb-false, ltb-true}
 use Rattle.jobtext.proofs.TokenLaws.{one_byte}
 use Rattle.jobtext.proofs.token.token_of.Goals as goal
 
