@@ -1,5 +1,5 @@
 -- An instruction back from the fields that write it, so that fields write at most one. Assumes nothing.
-use Rattle.std.proofs.Common.{◌≡◌, ℕ, ◌^◌, ◌<◌, ◌≤◌, false, cond, eqb, List, [], ◌∷◌, get_or, drop, Some, None, decimal, Option, sym, refl, ap, ◌∙◌, subst, arith, ne_eqb}
+use Rattle.std.proofs.Common.{◌≡◌, ℕ, ◌^◌, ◌<◌, false, cond, eqb, List, [], ◌∷◌, get_or, drop, Some, None, decimal, Option, sym, refl, ap, ◌∙◌, arith, ne_eqb}
 use Rattle.std.specs.Str.Parse.{digits_value}
 use Rattle.std.specs.List.{AllByRecursion}
 use Rattle.std.proofs.lemmas.Fmt.{decimal_is_IsNumeral, decimal_nonempty}
@@ -11,7 +11,7 @@ use Rattle.offers.specs.declared.offer.Offer.{Offer}
 use Rattle.command.specs.declared.commands.CostKind.{CostKind}
 use Rattle.command.specs.declared.commands.CostKind.TheVariants.{Total, Worst}
 use Rattle.command.specs.Demands.{cost_letter}
-use Rattle.command.specs.Instructions.{Instruction, open_job, add, take_back, plan, fewest, WrittenBlock, own, gain, rate_field, distortion_field, pair_fields, fields_of, GoodOffer, Good}
+use Rattle.command.specs.Instructions.{Instruction, open_job, add, take_back, plan, fewest, own, gain, rate_field, distortion_field, pair_fields, fields_of, GoodOffer, Good}
 
 -- letters
 kind_at : ℕ → LineKind

@@ -1,5 +1,5 @@
 -- A line has one reading. Assumes nothing.
-use Rattle.std.proofs.Common.{◌≡◌, ℕ, ◌+◌, ◌^◌, ◌<◌, true, false, ◌⊎◌, List, [], ◌∷◌, ◌++◌, length, get_or, is_some, Some, None, decimal, Option, sym, refl, ap, ◌∙◌, subst, inl, inr, append_assoc, arith, length-append, eqb-true}
+use Rattle.std.proofs.Common.{◌≡◌, ℕ, ◌+◌, true, false, List, [], ◌∷◌, ◌++◌, length, get_or, is_some, decimal, Option, sym, refl, ap, ◌∙◌, subst, inl, inr, append_assoc, arith, length-append, eqb-true}
 use lib.Seq.{get_or-append_seam}
 use borrow.Author.Tests.{both_ways}
 use Rattle.std.specs.List.{AllByRecursion}
@@ -14,11 +14,10 @@ use Rattle.jobtext.specs.declared.kind.LineKind.{LineKind}
 use Rattle.offers.specs.Faults.{weight_row, extra_row, samples_row, gain_row, rate_row, distortion_row}
 use Rattle.offers.specs.declared.offer.Offer.{Offer}
 use Rattle.terms.specs.Faults.{grades_row, ceiling_row, charge_row}
-use Rattle.command.specs.declared.commands.CostKind.{CostKind}
-use Rattle.command.specs.Demands.{cost_letter, any_row, InRow, NumberIn, NotNumberIn, Demand, a_cost_kind, a_number, a_rate, a_distortion, By, Meets, Fails, FirstFails, pairs}
+use Rattle.command.specs.Demands.{any_row, InRow, NumberIn, NotNumberIn, Demand, a_cost_kind, a_number, a_rate, a_distortion, By, Meets, Fails, FirstFails, pairs}
 use Rattle.command.specs.Instructions.{Instruction, open_job, add, take_back, plan, fewest, own, gain, pair_fields, kind_of, fields_of, GoodOffer, Good}
 use Rattle.command.specs.Pairs.{StandAt}
-use Rattle.command.specs.Lines.{grades_in, in_place, right_count, demands, Begins, Framed, Refused, unknown_first, out_of_place, wrong_count, wrong_field, Accepted, ReadOnce}
+use Rattle.command.specs.Lines.{grades_in, in_place, right_count, demands, Begins, Refused, unknown_first, out_of_place, wrong_count, wrong_field, Accepted, ReadOnce}
 use Rattle.command.proofs.Decoded.{kind_once, asked_once}
 use Rattle.command.proofs.PairLaws.{offer_meets, length_pairs}
 

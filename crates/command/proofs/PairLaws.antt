@@ -1,5 +1,5 @@
 -- One pair of fields after another. Assumes nothing.
-use Rattle.std.proofs.Common.{◌≡◌, ℕ, zero, suc, ◌+◌, ◌-◌, ◌*◌, ◌<◌, ◌≤◌, Bool, true, false, cond, ◌&&◌, eqb, ltb, leb, ◌⊎◌, List, [], ◌∷◌, ◌++◌, length, get_or, Some, None, Option, sym, refl, ap, ◌∙◌, subst, inl, inr, ⊎_elim, arith, length-append, ltb-false, eq-eqb, ne_eqb, eqb-true, le-leb}
+use Rattle.std.proofs.Common.{◌≡◌, ℕ, zero, suc, ◌+◌, ◌-◌, ◌*◌, ◌<◌, Bool, true, false, cond, eqb, ltb, List, [], ◌∷◌, ◌++◌, length, get_or, Some, None, Option, sym, refl, ap, ◌∙◌, subst, inl, inr, ⊎_elim, arith, length-append, ltb-false, eqb-true, le-leb}
 use native.Mathlib.Nat.{sub-zero}
 use lib.Seq.{get_or-append_seam}
 use borrow.Author.Tests.{eqb-false}
@@ -13,7 +13,7 @@ use Rattle.offers.specs.Offers.{offer_of}
 use Rattle.offers.specs.Own.{own_means, OnlyAt}
 use Rattle.offers.specs.declared.offer.Offer.{Offer}
 use Rattle.offers.specs.declared.own.OwnBlock.{OwnBlock}
-use Rattle.command.specs.Demands.{NumberIn, Meets, Fails, NoDistortion, FirstFails, pairs, a_rate, a_distortion}
+use Rattle.command.specs.Demands.{NumberIn, Meets, NoDistortion, FirstFails, pairs, a_rate, a_distortion}
 use Rattle.command.specs.Instructions.{rate_field, distortion_field, pair_fields, GoodOffer}
 use Rattle.command.specs.Pairs.{PairRead, OwnRead, StandAt}
 use Rattle.command.proofs.DashLaws.{not_dash}

@@ -2,7 +2,7 @@ use Rattle.std.proofs.Common.{arith}
 use Rattle.std.proofs.lemmas.Result.{err_from_is_err_and}
 use Rattle.jobtext.specs.Parts.{line_fields}
 use Rattle.command.specs.Faults.{fault_number, fault_layer}
-use Rattle.command.proofs.PairLaws.{Sofar, sofar_none, sofar_free, sofar_fails, sofar_more}
+use Rattle.command.proofs.PairLaws.{sofar_none, sofar_free, sofar_fails, sofar_more}
 use Rattle.command.proofs.blocks.own_block.Goals as goal
 
 pub loop-grade-init : goal.loop-grade-init
