@@ -5,14 +5,14 @@ use mathlib.Core.HLevel.{⊥_prop}
 use Rattle.std.proofs.lemmas.List.{reverse-reverse, length-reverse, length-take, get_or-reverse, get_or-take}
 use Rattle.std.proofs.lemmas.Bool.{cases_lt}
 use Rattle.faults.specs.Refusals.{first}
-use Rattle.layers.specs.declared.either.Either.{Either}
-use Rattle.blocks.specs.declared.gain.GainBlock.{GainBlock}
-use Rattle.layers.specs.declared.layers.Extra.{Extra}
-use Rattle.layers.specs.declared.layers.Weight.{Weight}
-use Rattle.layers.specs.declared.layers.calls.Extended.{Extended}
-use Rattle.layers.specs.declared.layers.calls.Weighted.{Weighted}
+use Rattle.offers.specs.declared.either.Either.{Either}
+use Rattle.offers.specs.declared.gain.GainBlock.{GainBlock}
+use Rattle.offers.specs.declared.layers.Extra.{Extra}
+use Rattle.offers.specs.declared.layers.Weight.{Weight}
+use Rattle.offers.specs.declared.layers.calls.Extended.{Extended}
+use Rattle.offers.specs.declared.layers.calls.Weighted.{Weighted}
 use Rattle.offers.specs.declared.offer.Offer.{Offer}
-use Rattle.blocks.specs.declared.own.OwnBlock.{OwnBlock}
+use Rattle.offers.specs.declared.own.OwnBlock.{OwnBlock}
 use Rattle.offers.specs.Offers.{weighted, extended, offers_below}
 use Rattle.costs.specs.Model.{Model, Ordered, AlikeSame}
 use Rattle.terms.specs.Rules.{Rules, rules_of}
@@ -20,12 +20,13 @@ use Rattle.terms.specs.Choice.{Block, Choice}
 use Rattle.terms.specs.Choice.Choice.{empty, next}
 use Rattle.trellis.specs.declared.place.Place.{Place}
 use Rattle.trellis.proofs.Names.{best_plan}
-use Rattle.trellis.specs.declared.fault.PlannerFault.{PlannerFault}
+use Rattle.planner.specs.declared.fault.PlannerFault.{PlannerFault}
 use Rattle.planner.specs.declared.tables.Tables.{Tables}
 use Rattle.planner.specs.Answers.{FewestOf, OnlyRefuses, Planned, PlanFrame}
-use Rattle.planner.specs.Faults.{planner_number, add_row, take_back_row}
+use Rattle.planner.specs.Faults.{planner_number, add_row, take_back_row, plan_row}
 use Rattle.planner.specs.Layout.{Columns}
-use Rattle.planner.specs.Standing.{standing_blocks, without_newest, add-cases, plan-cases, Sound, Added, Dropped, Unchanged}
+use Rattle.planner.specs.Standing.{standing_blocks, Sound, Added, Dropped, Unchanged}
+use Rattle.planner.specs.Runs.{without_newest}
 use Rattle.planner.proofs.Cases.{over_ceiling, asked, no_number}
 use Rattle.planner.proofs.Columns.{standing_length}
 use Rattle.command.specs.declared.commands.Command.TheVariants as command
@@ -56,19 +57,19 @@ module _ {V : Type 0} (p : Pricing V) (old new : Tables) (before after : List (P
 
   module _ (means : ℕ → Option Offer) where
     abbrev row_of : Block → Option ℕ
-    row_of offers = first (add_row old.terms.grades old.terms.ceiling (length before) (length blocks) offers)
+    row_of offers = first (add_row old.terms (length before) (length blocks) offers)
 
     abbrev has : Block
     has = offers_below means old.terms.grades
 
-    row_is : (answer : Option ℕ) → answer ≡ first (add-cases old (length before) has) → row_of has ≡ answer
-    row_is answer case = ap (λ n. first (add_row old.terms.grades old.terms.ceiling (length before) n has)) (standing_length old) ∙ sym case
+    row_is : (answer : Option ℕ) → answer ≡ first (add_row old.terms (length before) old.standing has) → row_of has ≡ answer
+    row_is answer case = ap (λ n. first (add_row old.terms (length before) n has)) (standing_length old) ∙ sym case
 
     -- what the source offers is what the layers of a line make of its block
     same_offers : (weight extra : ℕ) (written : WrittenBlock) → ((grade : ℕ) → means grade ≡ weighted weight (extended extra (block_means written grade))) → has ≡ offers_of weight extra written old.terms.grades
     same_offers weight extra written under = ap (λ f. offers_below f old.terms.grades) (λ i grade. under grade i)
 
-    pub added_done : None ≡ first (add-cases old (length before) has) → Added p.model has old new before after → length after ≡ length before → Offered p old new before after means nothing_said
+    pub added_done : None ≡ first (add_row old.terms (length before) old.standing has) → Added p.model has old new before after → length after ≡ length before → Offered p old new before after means nothing_said
     added_done case more long = record {
       goes = record { terms = more.terms; long = long; sound = more.sound sound };
       does = λ weight extra written under.
@@ -76,7 +77,7 @@ module _ {V : Type 0} (p : Pricing V) (old new : Tables) (before after : List (P
           subst (λ bs. D (add weight extra written) bs nothing_said) (ap (λ o. o ∷ blocks) (sym same) ∙ sym more.standing) (transcript.Does.added (ap row_of (sym same) ∙ row_is None case));
     }
 
-    pub not_added_done : (n : ℕ) → Some n ≡ first (add-cases old (length before) has) → Unchanged old new before after → Offered p old new before after means (planner_fault n)
+    pub not_added_done : (n : ℕ) → Some n ≡ first (add_row old.terms (length before) old.standing has) → Unchanged old new before after → Offered p old new before after means (planner_fault n)
     not_added_done n case kept = record {
       goes = same_goes kept.tables kept.places;
       does = λ weight extra written under.
@@ -156,7 +157,7 @@ module _ {V : Type 0} (p : Pricing V) (tables : Tables) (places : List (Place V)
     back = reverse (take tables.standing full)
 
     abbrev Frame : Result (ℕ × V) PlannerFault → Type 0
-    Frame = PlanFrame (plan-cases tables budget entries) tables.standing list full
+    Frame = PlanFrame (plan_row tables.terms tables.standing budget entries) tables.standing list full
 
     abbrev Answer : Result (ℕ × V) PlannerFault → Type 0
     Answer = Planned p.model (rules_of tables.terms) stands budget back

@@ -1,6 +1,6 @@
 -- A whole job text and the answer lines to it. Assumes nothing.
-use Rattle.std.specs.Prelude.{◌≡◌, ℕ, ◌+◌, ◌<◌, ◌≤◌, cond, ◌&&◌, List, [], ◌∷◌, ◌++◌, reverse, length, Some, None, Option, ◌==◌, ◌≢◌, nat_lt}
-use Rattle.faults.specs.Refusals.{first}
+use Rattle.std.specs.Prelude.{◌≡◌, ℕ, ◌+◌, ◌*◌, ◌<◌, ◌≤◌, cond, ◌&&◌, List, [], ◌∷◌, ◌++◌, reverse, length, Some, None, Option, ◌==◌, ◌≢◌, nat_le, nat_lt}
+use Rattle.faults.specs.Refusals.{Row, first}
 use Rattle.faults.specs.declared.Layer.TheVariants.{Planner}
 use Rattle.offers.specs.Offers.{weighted, extended, offers_below}
 use Rattle.costs.specs.Model.{Model}
@@ -10,8 +10,8 @@ use Rattle.costs.specs.declared.worst.Worst.{Worst}
 use Rattle.terms.specs.Rules.{Rules}
 use Rattle.terms.specs.Choice.{Block}
 use Rattle.trellis.specs.Named.{BestPlan, NothingFits}
-use Rattle.planner.specs.Faults.{add_row, take_back_row}
-use Rattle.planner.specs.Standing.{without_newest}
+use Rattle.planner.specs.Faults.{take_back_row}
+use Rattle.planner.specs.Runs.{without_newest}
 use Rattle.planner.specs.Answers.{Fewest, NoneWithin}
 use Rattle.jobtext.specs.Faults.{text_number, text_layer}
 use Rattle.jobtext.specs.Parts.{text_lines, line_fields}
@@ -36,6 +36,11 @@ flat_rules grades charge = record { grades = grades; charge = λ from to. cond (
 abbrev pub offers_of : (weight extra : ℕ) → WrittenBlock → (grades : ℕ) → Block
 offers_of weight extra written grades = offers_below (λ grade. weighted weight (extended extra (block_means written grade))) grades
 
+-- what the planner refuses of adding a block of these offers, under so many grades and that ceiling, where so many places are lent
+-- and so many blocks stand: 64 stand; the places are too few
+abbrev pub add_cases : (grades ceiling lent standing : ℕ) → Block → Row
+add_cases grades ceiling lent standing offers = (nat_le 64 standing, 30) ∷ (nat_lt lent ((standing + 1) * (grades * (ceiling + 1))), 31) ∷ []
+
 -- a refusal of the planner's, which belongs to no field
 abbrev pub planner_fault : ℕ → Said
 planner_fault number = fault_said 0 Planner number
@@ -43,8 +48,8 @@ planner_fault number = fault_said 0 Planner number
 -- what an instruction does to the standing blocks, newest first, where so many places are lent, and what is said to it
 module _ {V : Type 0} (p : Pricing V) (rules : Rules) (ceiling lent : ℕ) (blocks : List Block) where
   pub data Does : Instruction → List Block → Said → Type 0 where
-    added : {weight extra : ℕ} {written : WrittenBlock} → first (add_row rules.grades ceiling lent (length blocks) (offers_of weight extra written rules.grades)) ≡ None → Does (add weight extra written) (offers_of weight extra written rules.grades ∷ blocks) nothing_said
-    not_added : {weight extra number : ℕ} {written : WrittenBlock} → first (add_row rules.grades ceiling lent (length blocks) (offers_of weight extra written rules.grades)) ≡ Some number → Does (add weight extra written) blocks (planner_fault number)
+    added : {weight extra : ℕ} {written : WrittenBlock} → first (add_cases rules.grades ceiling lent (length blocks) (offers_of weight extra written rules.grades)) ≡ None → Does (add weight extra written) (offers_of weight extra written rules.grades ∷ blocks) nothing_said
+    not_added : {weight extra number : ℕ} {written : WrittenBlock} → first (add_cases rules.grades ceiling lent (length blocks) (offers_of weight extra written rules.grades)) ≡ Some number → Does (add weight extra written) blocks (planner_fault number)
     taken_back : first (take_back_row (length blocks)) ≡ None → Does take_back (without_newest blocks) nothing_said
     not_taken_back : {number : ℕ} → first (take_back_row (length blocks)) ≡ Some number → Does take_back blocks (planner_fault number)
     -- the grades are the named plan, a choice of the bits and the cost; within the budget no choice is cheaper

@@ -28,7 +28,8 @@ fn respond<K: Priced>(planner: &mut Planner<K>, line: &[u8]) -> Result<Reply, Jo
     if line.is_empty() {
         return Ok(Reply::Nothing);
     }
-    let command = read_command(line, Some(planner.terms()))?;
+    let terms = planner.terms();
+    let command = read_command(line, Some(&terms))?;
     obey(planner, command)
 }
 

@@ -8,10 +8,8 @@ ghost use Rattle.job.specs.Steps.{pricing, Asks, Done, Offered};
 use crate::fault::JobFault;
 use crate::priced::Priced;
 use crate::reply::{PlanGrades, Reply};
-use blocks::{GainBlock, OwnBlock};
 use command::Command;
-use layers::{Either, Extra, Weight};
-use offers::Source;
+use offers::{Either, Extra, GainBlock, OwnBlock, Source, Weight};
 use planner::Planner;
 
 // Adds a block of what the source offers.

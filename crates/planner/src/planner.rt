@@ -88,6 +88,13 @@ impl<'a, K: Kind> Planner<'a, K> {
         fewest_bits(&self.tables, self.places, bound)
     }
 
+    // The terms that it plans under.
+    pub fn terms(&self) -> Terms
+        ensures { result ≡ self.now.tables.terms }
+    {
+        self.tables.terms
+    }
+
     // How many blocks stand.
     pub fn standing(&self) -> usize
         ensures { result ≡ length (standing_blocks self.now.tables) }

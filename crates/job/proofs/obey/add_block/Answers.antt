@@ -1,7 +1,7 @@
 use Rattle.std.proofs.Common.{◌≡◌, sym, refl, ap, ◌∙◌}
-use Rattle.blocks.specs.Gain.{gain_means}
+use Rattle.offers.specs.Gain.{gain_means}
 use Rattle.offers.specs.Offers.{weighted, extended}
-use Rattle.blocks.specs.Own.{own_means}
+use Rattle.offers.specs.Own.{own_means}
 use Rattle.command.specs.Instructions.{source_means}
 use Rattle.job.specs.Faults.{said_by}
 use Rattle.job.specs.Steps.{pricing}
