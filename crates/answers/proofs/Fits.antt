@@ -1,8 +1,8 @@
 -- The longest answer lines. Assumes nothing.
-use Rattle.std.proofs.Common.{◌≡◌, ℕ, ◌+◌, ◌*◌, ◌^◌, ◌<◌, ◌≤◌, List, [], ◌∷◌, ◌++◌, length, codes, ap, arith}
+use Rattle.std.proofs.Common.{ℕ, ◌+◌, ◌*◌, ◌^◌, ◌<◌, ◌≤◌, List, [], ◌∷◌, ◌++◌, length, codes, arith}
 use Rattle.std.proofs.lemmas.Fmt.{length-decimal-le}
 use Rattle.std.proofs.lemmas.List.{length-append}
-use Rattle.std.specs.List.{flat_map, AllByRecursion as All}
+use Rattle.std.specs.List.{flat_map, AllByRecursion}
 use Rattle.faults.specs.Layers.{layer_name}
 use Rattle.faults.specs.declared.Layer.{Layer}
 use Rattle.faults.specs.declared.Layer.TheVariants.{Text, Terms, Block, Planner, Answer}
@@ -13,7 +13,7 @@ use Rattle.answers.specs.Longest.{longest, EveryLineFits}
 field_then : (n k : ℕ) (rest : List ℕ) → n < 2 ^ 32 → length rest ≤ k → length (after_comma n ++ rest) ≤ 11 + k
 field_then n k rest small h = simp length-append (omega (arith, length-decimal-le 10 n (omega arith) (omega arith) (omega arith)))
 
-grades_most : (grades : List ℕ) → All (λ grade. grade < 100) grades → length (flat_map after_comma grades) ≤ 3 * length grades
+grades_most : (grades : List ℕ) → AllByRecursion (λ grade. grade < 100) grades → length (flat_map after_comma grades) ≤ 3 * length grades
 grades_most [] h = omega arith
 grades_most (grade ∷ grades) h =
     omega (arith, length-append (after_comma grade) (flat_map after_comma grades), length-decimal-le 2 grade (omega arith) (omega (arith, h.0)) (omega (arith, h.0)), grades_most grades h.1)
@@ -25,7 +25,7 @@ word_most Block = omega arith
 word_most Planner = omega arith
 word_most Answer = omega arith
 
-module _ (line budget bits cost : ℕ) (grades : List ℕ) (l : line < 2 ^ 32) (b : budget < 2 ^ 32) (m : bits < 2 ^ 32) (c : cost < 2 ^ 32) (few : length grades ≤ 64) (small : All (λ grade. grade < 100) grades) where
+module _ (line budget bits cost : ℕ) (grades : List ℕ) (l : line < 2 ^ 32) (b : budget < 2 ^ 32) (m : bits < 2 ^ 32) (c : cost < 2 ^ 32) (few : length grades ≤ 64) (small : AllByRecursion (λ grade. grade < 100) grades) where
   plan_fits : length (plan_text line budget bits cost grades) ≤ longest
   plan_fits =
       let after-cost : List ℕ = flat_map after_comma grades ++ line_feed in

@@ -1,4 +1,6 @@
 // Answer lines: a plan, the fewest bits or a fault, each as one line of text in lent bytes.
+#![tactic(auto)]
+
 mod fault;
 mod lines;
 mod measure;

@@ -102,6 +102,7 @@ pub fn fault_line(
 }
 
 // A room of this many bytes is never too small for a fault, for bits, or for a plan of at most 64 grades below 100.
+#[tactic(auto, using(crate::proofs::Fits::every_line_fits))]
 pub fn longest_line() -> usize
     ensures value { result ≡ longest }
     ensures enough { EveryLineFits result }
