@@ -1,5 +1,5 @@
 -- The planner's calls as the instructions of a job. Assumes nothing.
-use Rattle.std.proofs.Common.{◌≡◌, ℕ, zero, suc, ◌+◌, ◌-◌, ◌<◌, ◌≤◌, ◌⊎◌, List, [], ◌∷◌, reverse, length, get_or, take, IsErrAnd, Some, None, Ok, Err, Option, Result, sym, refl, ap, ◌∙◌, subst, inl, inr, ⊎_elim, arith}
+use Rattle.std.proofs.Common.{◌≡◌, ℕ, zero, suc, ◌-◌, ◌<◌, ◌≤◌, List, ◌∷◌, reverse, length, get_or, take, IsErrAnd, Some, None, Ok, Err, Option, Result, sym, refl, ap, ◌∙◌, subst, ⊎_elim, arith}
 use mathlib.Core.Logic.{∥∥₁_elim}
 use mathlib.Core.HLevel.{⊥_prop}
 use Rattle.std.proofs.lemmas.List.{reverse-reverse, length-reverse, length-take, get_or-reverse, get_or-take}
@@ -22,13 +22,13 @@ use Rattle.trellis.specs.declared.place.Place.{Place}
 use Rattle.trellis.proofs.Names.{best_plan}
 use Rattle.planner.specs.declared.fault.PlannerFault.{PlannerFault}
 use Rattle.planner.specs.declared.tables.Tables.{Tables}
-use Rattle.planner.specs.Answers.{FewestOf, OnlyRefuses, Planned, PlanFrame}
+use Rattle.planner.specs.Answers.{FewestOf, Planned, PlanFrame}
 use Rattle.planner.specs.Faults.{planner_number, add_row, take_back_row, plan_row}
 use Rattle.planner.specs.Layout.{Columns}
 use Rattle.planner.specs.Standing.{standing_blocks, Sound, Added, Dropped, Unchanged}
 use Rattle.planner.specs.Runs.{without_newest}
 use Rattle.planner.proofs.Cases.{over_ceiling, asked, no_number}
-use Rattle.planner.proofs.Columns.{standing_length}
+use Rattle.planner.proofs.Turns.{standing_length}
 use Rattle.command.specs.declared.commands.Command.TheVariants as command
 use Rattle.command.specs.Instructions.{WrittenBlock, Instruction, add, take_back, plan, fewest, block_means, source_means}
 use Rattle.job.specs.declared.fault.JobFault.{JobFault}

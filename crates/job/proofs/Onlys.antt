@@ -1,10 +1,8 @@
 -- A text has at most one output. Assumes nothing.
-use Rattle.std.proofs.Common.{◌≡◌, ℕ, ◌+◌, ◌<◌, ◌≤◌, List, [], ◌∷◌, ◌++◌, reverse, length, get_or, Some, None, Option, sym, refl, ap, ◌∙◌, subst, ⊎_elim, arith}
+use Rattle.std.proofs.Common.{◌≡◌, ℕ, ◌+◌, ◌≤◌, List, [], ◌++◌, reverse, length, get_or, Some, None, Option, sym, refl, ap, ◌∙◌, subst, ⊎_elim, arith}
 use mathlib.Core.Logic.{∥∥₁_elim}
 use mathlib.Core.HLevel.{⊥_prop}
 use Rattle.std.proofs.lemmas.Bool.{cases_lt}
-use Rattle.faults.specs.declared.Layer.{Layer}
-use Rattle.costs.specs.Model.{Model}
 use Rattle.terms.specs.Rules.{Rules}
 use Rattle.terms.specs.Choice.{Block}
 use Rattle.trellis.specs.Named.{NamesOne, BestPlan, NothingFits}
@@ -13,11 +11,11 @@ use Rattle.planner.specs.Answers.{Fewest, NoneWithin}
 use Rattle.jobtext.specs.Parts.{text_lines, line_fields}
 use Rattle.command.specs.declared.commands.CostKind.{CostKind}
 use Rattle.command.specs.declared.commands.CostKind.TheVariants as kind
-use Rattle.command.specs.Instructions.{Instruction, open_job, add, take_back, plan, fewest, kind_of, fields_of}
-use Rattle.command.specs.Lines.{Accepted, Refused}
+use Rattle.command.specs.Instructions.{Instruction, open_job, add, take_back, plan, fewest}
+use Rattle.command.specs.Lines.{Accepted}
 use Rattle.command.proofs.Once.{read_once}
-use Rattle.job.specs.Replies.{Said, nothing_said, plan_said, fault_said, bits_said, said_text}
-use Rattle.job.specs.Transcript.{Pricing, flat_rules, planner_fault, Does, by_total, by_worst, DoesBy, State, idle, busy, grades_now, Step, Transcript, Output, OneOutput}
+use Rattle.job.specs.Replies.{Said, plan_said, fault_said, bits_said, said_text}
+use Rattle.job.specs.Transcript.{Pricing, flat_rules, planner_fault, Does, by_total, by_worst, DoesBy, State, idle, busy, grades_now, Step, Transcript, OneOutput}
 use Rattle.job.specs.Transcript.Does.{added, not_added, taken_back, not_taken_back, planned, over_ceiling, nothing_fits, fewest_found, none_within}
 use Rattle.job.specs.Transcript.Step.{blank, refused, opened, obeyed}
 use Rattle.job.specs.Transcript.Transcript.{ended, next}

@@ -1,17 +1,16 @@
 -- One line of an open job. Assumes nothing.
-use Rattle.std.proofs.Common.{◌≡◌, ℕ, ◌<◌, ◌≤◌, Bool, true, false, cond, not, ◌&&◌, eqb, ltb, List, [], length, get_or, Some, sym, refl, ap, ◌∙◌, subst, ⊎_elim, arith}
+use Rattle.std.proofs.Common.{◌≡◌, ℕ, true, false, cond, ◌&&◌, eqb, ltb, List, [], length, get_or, Some, sym, refl, ap, ◌∙◌, subst, ⊎_elim, arith}
 use Rattle.std.proofs.lemmas.Bool.{cases_lt, lt-ltb, le-ltb}
 use Rattle.faults.specs.declared.Layer.{Layer}
 use Rattle.terms.specs.declared.terms.Terms.{Terms}
-use Rattle.terms.specs.Rules.{Rules, charge_at, rules_of}
+use Rattle.terms.specs.Rules.{charge_at, rules_of}
 use Rattle.trellis.specs.declared.place.Place.{Place}
 use Rattle.planner.specs.declared.tables.Tables.{Tables}
 use Rattle.planner.specs.Standing.{standing_blocks, Sound}
 use Rattle.jobtext.specs.Parts.{line_fields}
 use Rattle.command.specs.declared.commands.Command.{Command}
 use Rattle.command.specs.declared.commands.Command.TheVariants as command
-use Rattle.command.specs.declared.commands.CostKind.{CostKind}
-use Rattle.command.specs.Instructions.{Instruction, open_job, kind_of, FlatCharge}
+use Rattle.command.specs.Instructions.{kind_of, FlatCharge}
 use Rattle.command.specs.Lines.{in_place, Refused, Commands}
 use Rattle.job.specs.Replies.{Said, nothing_said, fault_said}
 use Rattle.job.specs.Transcript as transcript

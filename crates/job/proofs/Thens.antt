@@ -1,5 +1,5 @@
 -- An output so far, of which the rest is still to come. Assumes nothing.
-use Rattle.std.proofs.Common.{◌≡◌, ℕ, List, [], ◌++◌, sym, refl, ap, ◌∙◌, subst, append_assoc, append-nil}
+use Rattle.std.proofs.Common.{◌≡◌, ℕ, List, [], ◌++◌, sym, ap, ◌∙◌, subst, append_assoc, append-nil}
 use Rattle.job.specs.Steps.{Grown}
 
 -- since `before` something was said, after which whatever is right from now on makes what is right from the start

@@ -1,15 +1,14 @@
 -- The lines before a job is open. Assumes nothing.
-use Rattle.std.proofs.Common.{◌≡◌, ℕ, ◌+◌, List, [], ◌∷◌, ◌++◌, length, IfOk, None, Result, sym, refl, ap, ◌∙◌, subst, arith}
+use Rattle.std.proofs.Common.{◌≡◌, ℕ, ◌+◌, List, [], ◌∷◌, ◌++◌, length, IfOk, None, Result, sym, ap, subst, arith}
 use Rattle.std.proofs.lemmas.Result.{IfOk-weaker}
 use Rattle.terms.specs.declared.terms.Terms.{Terms}
 use Rattle.jobtext.specs.Parts.{line_fields}
-use Rattle.command.specs.declared.commands.Command.{Command}
 use Rattle.command.specs.declared.commands.Command.TheVariants as command
 use Rattle.command.specs.declared.commands.CostKind.{CostKind}
-use Rattle.command.specs.Instructions.{Instruction, open_job, kind_of, FlatCharge}
-use Rattle.command.specs.Lines.{in_place, Accepted, Commands}
-use Rattle.job.specs.Replies.{Said, nothing_said, said_text}
-use Rattle.job.specs.Transcript.{State, idle, busy, Step, Transcript}
+use Rattle.command.specs.Instructions.{open_job, FlatCharge}
+use Rattle.command.specs.Lines.{Accepted, Commands}
+use Rattle.job.specs.Replies.{Said, said_text}
+use Rattle.job.specs.Transcript.{idle, busy, Step, Transcript}
 use Rattle.job.specs.Transcript.Step.{opened}
 use Rattle.job.specs.Transcript.Transcript.{ended, next}
 use Rattle.job.specs.Steps.{Grown}

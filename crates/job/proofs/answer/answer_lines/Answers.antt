@@ -1,4 +1,4 @@
-use Rattle.std.proofs.Common.{◌≡◌, ℕ, ◌+◌, ◌≤◌, List, [], length, None, vec_items, sym, refl, ap, ◌∙◌, subst, append-nil, arith, rules}
+use Rattle.std.proofs.Common.{◌≡◌, [], length, None, vec_items, sym, ap, ◌∙◌, subst, append-nil, arith, rules}
 use borrow.Author.Tests.{eqb-false}
 use Rattle.std.proofs.lemmas.List.{nil_from_length}
 use Rattle.jobtext.specs.Lines.{unread}
@@ -37,7 +37,7 @@ loop-line-preserved c =
     let found = c.in-Err.fault in
     let out = vec_items c.loop-line.out in
     let some : line ≡ [] → ⊥ = λ e. eqb-false (length line) 0 (sym c.is_empty.ensures ∙ c.if-is_empty.false) (ap length e) in
-    waits_on c.args.places _ _ c.loop-line.number line (unread c.loop-line.lines) (unread c.next.new.self) out c.in-Some.ensures.steps c.loop-line.invariant (vec_items c.say.new.out) (fault_said found.field (fault_layer found.fault) (fault_number found.fault)) (refused {s = idle} some c.in-Err.ensures.read) c.in_ok-say.ensures
+    waits_on c.args.places _ _ c.loop-line.number line (unread c.loop-line.lines) (unread c.next.new.self) out c.in-Some.ensures.steps c.loop-line.invariant (vec_items c.say.new.out) (fault_said found.field (fault_layer found.fault) (fault_number found.fault)) (refused {s = idle} some c.in-Err.ensures.read) c.in_ok-say-in-Err.ensures
 
 pub returns : goal.returns
 returns c =

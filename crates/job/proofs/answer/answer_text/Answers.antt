@@ -1,4 +1,4 @@
-use Rattle.std.proofs.Common.{◌≡◌, List, ◌++◌, vec_items, sym, refl, ap, ◌∙◌, subst}
+use Rattle.std.proofs.Common.{◌++◌, sym, ap, ◌∙◌, subst}
 use Rattle.job.specs.Transcript.{Output}
 use Rattle.job.proofs.Onlys.{one_output}
 use Rattle.job.proofs.Saying.{failed}

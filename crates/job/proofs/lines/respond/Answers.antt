@@ -1,4 +1,4 @@
-use Rattle.std.proofs.Common.{◌≡◌, List, [], length, Some, sym, refl, ap, ◌∙◌, subst, arith, rules}
+use Rattle.std.proofs.Common.{◌≡◌, [], length, Some, sym, ap, ◌∙◌, subst, rules}
 use borrow.Author.Tests.{eqb-false}
 use Rattle.std.proofs.lemmas.List.{nil_from_length}
 use Rattle.jobtext.specs.Parts.{line_fields}
@@ -23,7 +23,7 @@ returns-in_err-command g c =
     let at = c.args.planner.now in
     let line = c.args.line.now in
     let found = c.in_err-command.field-0.0 in
-    let r = subst (λ t. Refused (Some t.grades) (line_fields line) found.field (fault_layer found.fault) (fault_number found.fault)) c.terms.ensures c.in_err-command.ensures.read in
+    let r = subst (λ t. Refused (Some t.grades) (line_fields line) found.field (fault_layer found.fault) (fault_number found.fault)) c.terms-terms.ensures c.in_err-command.ensures.read in
     let some : line ≡ [] → ⊥ = λ e. eqb-false (length line) 0 (sym c.is_empty.ensures ∙ c.if-is_empty.false) (ap length e) in
     subst (Stepped p at.tables at.tables at.places.now at.places.now line) (carried c.from_residual.result (Line found) c.from_residual.ensures.1)
     (refused_step p at.tables at.places.now line c.requires found.field (fault_number found.fault) (fault_layer found.fault) some r)
@@ -38,4 +38,4 @@ returns g c =
     let new = c.obey.new.planner in
     let line = c.args.line.now in
     let asked = c.in_ok-command.command in
-    obeyed_step p old.tables new.tables old.places.now new.places.now line asked (said_by c.obey.result) (subst (λ t. Commands (Some t.grades) (line_fields line) asked) c.terms.ensures c.in_ok-command.ensures.read) c.obey.ensures
+    obeyed_step p old.tables new.tables old.places.now new.places.now line asked (said_by c.obey.result) (subst (λ t. Commands (Some t.grades) (line_fields line) asked) c.terms-terms.ensures c.in_ok-command.ensures.read) c.obey.ensures

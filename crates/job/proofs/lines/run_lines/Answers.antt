@@ -1,4 +1,4 @@
-use Rattle.std.proofs.Common.{◌≡◌, ℕ, ◌+◌, List, [], ◌∷◌, length, vec_items, sym, refl, ap, ◌∙◌, subst, rules}
+use Rattle.std.proofs.Common.{◌≡◌, ◌+◌, [], length, vec_items, sym, refl, ap, subst, rules}
 use Rattle.jobtext.specs.Lines.{unread}
 use Rattle.command.specs.Instructions.{FlatCharge}
 use Rattle.job.specs.Faults.{said_by}
@@ -11,7 +11,7 @@ pub loop-line-init : goal.loop-line-init
 loop-line-init g c =
     let o = c.open-planner.result in
     let e = c.open-planner.ensures in
-    let same : unread c.args.lines ≡ unread c.into_iter-line-iterator.result = ap unread (sym c.into_iter-line-iterator.ensures.into_iter-gives) in
+    let same : unread c.args.lines ≡ unread c.into_iter-line-iterator.result = ap unread (sym c.into_iter-line-iterator.ensures.into_iter_gives) in
     let p = pricing g.K.Kind.model g.K.Priced.valued g.K.Priced.shown in
     let before = vec_items c.args.out.now in
     let going = going_first p o.tables.terms (length o.places.now) c.args.read (unread c.args.lines) before o.tables o.places.now refl refl e.sound e.standing in

@@ -1,4 +1,4 @@
-use Rattle.std.proofs.Common.{◌≡◌, ℕ, sym, refl, ap, ◌∙◌, subst}
+use Rattle.std.proofs.Common.{subst}
 use Rattle.planner.specs.Faults.{planner_number}
 use Rattle.job.specs.declared.fault.JobFault.TheVariants.{Planner}
 use Rattle.job.specs.Steps.{pricing, Offered}

@@ -1,4 +1,4 @@
-use Rattle.std.proofs.Common.{◌≡◌, sym, refl, ap, ◌∙◌}
+use Rattle.std.proofs.Common.{sym, ap, ◌∙◌}
 use Rattle.offers.specs.Gain.{gain_means}
 use Rattle.offers.specs.Offers.{weighted, extended}
 use Rattle.offers.specs.Own.{own_means}

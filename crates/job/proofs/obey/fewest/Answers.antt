@@ -1,5 +1,4 @@
-use Rattle.std.proofs.Common.{◌≡◌, sym, refl, ap, ◌∙◌, subst}
-use Rattle.planner.specs.Faults.{planner_number}
+use Rattle.std.proofs.Common.{subst}
 use Rattle.command.specs.declared.commands.Command.TheVariants.{Fewest}
 use Rattle.job.specs.declared.fault.JobFault.TheVariants.{Planner}
 use Rattle.job.specs.Steps.{pricing, Done}

@@ -1,6 +1,5 @@
-use Rattle.std.proofs.Common.{◌≡◌, ℕ, ◌≤◌, length, sym, refl, ap, ◌∙◌, subst, arith}
-use Rattle.planner.specs.Faults.{planner_number}
-use Rattle.planner.proofs.Columns.{standing_length}
+use Rattle.std.proofs.Common.{◌≡◌, ◌≤◌, length, subst, arith}
+use Rattle.planner.proofs.Turns.{standing_length}
 use Rattle.command.specs.declared.commands.Command.TheVariants.{Plan}
 use Rattle.job.specs.declared.fault.JobFault.TheVariants.{Planner}
 use Rattle.job.specs.Steps.{pricing, Done}
@@ -23,7 +22,11 @@ invariant_of-result g c =
     let e = c.in_ok-answer.ensures in
     let long : length c.plan.new.grades ≡ 64 = omega (arith, c.plan.auto) in
     let few : at.tables.standing ≤ length c.plan.new.grades = omega (arith, at.tables.few) in
-    (long, (omega (arith, c.standing-count.ensures, standing_length at.tables, at.tables.few), (grades_low p at.tables at.places.now c.requires g.met.K.Kind.ordered g.met.K.Kind.alike_same c.args.budget 64 c.plan.new.grades c.plan.new.grades c.in_ok-answer.answer c.standing-count.result (e.answer c.requires) c.standing-count.ensures few, tt)))
+    record {
+      long = long;
+      few = omega (arith, c.standing-count.ensures, standing_length at.tables, at.tables.few);
+      low = grades_low p at.tables at.places.now c.requires g.met.K.Kind.ordered g.met.K.Kind.alike_same c.args.budget 64 c.plan.new.grades c.plan.new.grades c.in_ok-answer.answer c.standing-count.result (e.answer c.requires) c.standing-count.ensures few;
+    }
 
 pub returns : goal.returns
 returns g c =

@@ -1,4 +1,4 @@
-use Rattle.std.proofs.Common.{◌≡◌, sym, refl, ap, ◌∙◌, subst}
+use Rattle.std.proofs.Common.{subst}
 use Rattle.planner.specs.Faults.{planner_number}
 use Rattle.command.specs.declared.commands.Command.TheVariants.{TakeBack}
 use Rattle.job.specs.declared.fault.JobFault.TheVariants.{Planner}
