@@ -3,7 +3,7 @@ use Rattle.std.proofs.Common.{◌≡◌, ℕ, ◌-◌, ◌^◌, ◌<◌, ◌≤�
 use native.Mathlib.Nat.{sub-zero}
 use Rattle.std.proofs.ByRecursion.{All-from_get_or}
 use Rattle.std.proofs.lemmas.List.{take_at, length-take, get_or-take}
-use Rattle.std.specs.List.{AllByRecursion as All}
+use Rattle.std.specs.List.{AllByRecursion}
 use Rattle.answers.specs.declared.fault.AnswerFault.{AnswerFault}
 use Rattle.answers.specs.Longest.{longest}
 use Rattle.answers.specs.Room.{LineIn, Answered}
@@ -20,7 +20,7 @@ pub plan_short : (line budget bits cost : ℕ) (grades : PlanGrades) → line < 
 plan_short line budget bits cost grades a b c d =
     let xs = take grades.count grades.list in
     let long : length xs ≡ grades.count = simp length-take (omega (arith, grades.few, grades.long)) in
-    let low : All (λ grade. grade < 100) xs = All-from_get_or (λ grade. grade < 100) xs 0 (λ k h. (let small = grades.low k (omega arith) in let at = get_or-take grades.count grades.list k 0 (omega arith) in omega arith)) in
+    let low : AllByRecursion (λ grade. grade < 100) xs = All-from_get_or (λ grade. grade < 100) xs 0 (λ k h. (let small = grades.low k (omega arith) in let at = get_or-take grades.count grades.list k 0 (omega arith) in omega arith)) in
     subst (λ n. length (plan_text line budget bits cost (take n grades.list)) ≤ longest) (sym (sub-zero grades.count)) (every_line_fits.plan line budget bits cost xs a b c d (omega (arith, grades.few)) low)
 
 -- the front of the room was appended

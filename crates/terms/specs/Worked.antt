@@ -2,7 +2,7 @@
 use Rattle.std.specs.Prelude.{◌≡◌, ℕ, ◌≤◌, cond, List, [], ◌∷◌, reverse, Some, None, Option, ◌==◌}
 use Rattle.std.proofs.Common.{lit≤}
 use Rattle.std.specs.Option.{option_map}
-use Rattle.std.specs.List.{AllByRecursion as All}
+use Rattle.std.specs.List.{AllByRecursion}
 use Rattle.offers.specs.declared.offer.Offer.{Offer}
 use Rattle.offers.specs.declared.gain.GainBlock.{GainBlock}
 use Rattle.offers.specs.Offers.{offer_of, weighted}
@@ -60,4 +60,4 @@ worked =
 
 -- each of them holds
 abbrev pub AsWorked : Type 0
-AsWorked = All Holds worked
+AsWorked = AllByRecursion Holds worked

@@ -4,7 +4,7 @@ ghost use Rattle.faults.specs.Refusals.{first, refusal};
 ghost use Rattle.offers.specs.Faults.{block_number, gain_block_row};
 ghost use Rattle.offers.specs.Gain.{gain_means};
 ghost use Rattle.offers.specs.InRange.{gain_ranged};
-ghost use Rattle.std.proofs.Common.{rules, arith};
+ghost use Rattle.std.proofs.Common.{rules};
 
 use super::GainBlock;
 use crate::fault::BlockFault;
@@ -39,7 +39,7 @@ impl GainBlock {
 impl Source for GainBlock {
     ghost means = { gain_means };
 
-    ghost none_past = { first_of (Prim.search rules, Prim.grind (arith, Self.row.coded.inj)) };
+    ghost none_past = { Prim.search rules };
 
     ghost in_range = { gain_ranged };
 

@@ -5,7 +5,7 @@ ghost use Rattle.offers.specs.Faults.{block_number, set_row, grade_row};
 ghost use Rattle.offers.specs.Offers.{offer_of};
 ghost use Rattle.offers.specs.Own.{own_means, OnlyAt};
 ghost use Rattle.offers.specs.InRange.{below_ranged};
-ghost use Rattle.std.proofs.Common.{rules, arith};
+ghost use Rattle.std.proofs.Common.{rules};
 
 use super::OwnBlock;
 use crate::fault::BlockFault;
@@ -47,7 +47,7 @@ impl OwnBlock {
 impl Source for OwnBlock {
     ghost means = { own_means };
 
-    ghost none_past = { first_of (Prim.search rules, Prim.grind (arith, Self.row.coded.inj)) };
+    ghost none_past = { Prim.search rules };
 
     ghost in_range = { λ source. below_ranged source.offers source.ranged };
 
