@@ -42,13 +42,13 @@ parts_first c (b ∷ p) q h =
     let P : Bool → Type 0 = λ t. eqb b c ≡ t → cond t ([] ∷ parts c (p ++ c ∷ q)) (onto b (parts c (p ++ c ∷ q))) ≡ (b ∷ p) ∷ parts c q in
     elim (eqb b c) as P [ true ↦ λ e. absurd (h 0 (omega arith) (eqb-true b c e)) | false ↦ λ e. ap (onto b) rest ] refl
 
--- where the first c stands at i
-pub cut_at : (c i : ℕ) (s : List ℕ) → i < length s → ((k : ℕ) → k < i → get_or s k 0 ≡ c → ⊥) → get_or s i 0 ≡ c → (s ≡ take i s ++ c ∷ drop (i + 1) s) × (parts c s ≡ take i s ∷ parts c (drop (i + 1) s))
-cut_at c i s lt before here =
-    let whole : s ≡ take i s ++ c ∷ drop (i + 1) s = sym (take-append-drop i s) ∙ ap (λ l. take i s ++ l) (drop_more s i 0 lt) ∙ ap (λ x. take i s ++ x ∷ drop (i + 1) s) here in
+-- where the first c stands at i, just before n
+pub cut_at : (c i n : ℕ) (s : List ℕ) → n ≡ i + 1 → i < length s → ((k : ℕ) → k < i → get_or s k 0 ≡ c → ⊥) → get_or s i 0 ≡ c → (s ≡ take i s ++ c ∷ drop n s) × (parts c s ≡ take i s ∷ parts c (drop n s))
+cut_at c i n s next lt before here =
+    let whole : s ≡ take i s ++ c ∷ drop n s = sym (take-append-drop i s) ∙ ap (λ l. take i s ++ l) (drop_more s i 0 lt) ∙ ap (λ x. take i s ++ x ∷ drop (i + 1) s) here ∙ ap (λ k. take i s ++ c ∷ drop k s) (sym next) in
     let long = length-take-le i s (omega arith) in
     let clear : LacksByte c (take i s) = λ k h e. before k (omega arith) (sym (get_or-take i s k 0 (omega arith)) ∙ e) in
-    (whole, ap (parts c) whole ∙ parts_first c (take i s) (drop (i + 1) s) clear)
+    (whole, ap (parts c) whole ∙ parts_first c (take i s) (drop n s) clear)
 
 -- one element on, of the count
 pub count_is : (c i : ℕ) (s : List ℕ) → i < length s → get_or s i 0 ≡ c → length (parts c (drop i s)) ≡ length (parts c (drop (i + 1) s)) + 1
@@ -72,6 +72,13 @@ last_part n xs y e = omega (arith, ap length e, length-drop n xs)
 pub some_front : (c : ℕ) (s front : List ℕ) (o : Option (Bor (List ℕ))) → MatchOption o ((front ≡ s) × (parts c s ≡ front ∷ [])) (λ a. (s ≡ front ++ c ∷ a.now) × (parts c s ≡ front ∷ parts c a.now)) → (ps : List (List ℕ)) × (parts c s ≡ front ∷ ps)
 some_front c s front None h = ([], h.1)
 some_front c s front (Some a) h = (parts c a.now, h.1)
+
+-- where n parts stand before what `cut` took apart, its first part is the one at i
+pub part_at : (c n i : ℕ) (s rest taken front : List ℕ) (o : Option (Bor (List ℕ))) → parts c rest ≡ drop n (parts c s) → MatchOption o ((front ≡ taken) × (parts c taken ≡ front ∷ [])) (λ a. (taken ≡ front ++ c ∷ a.now) × (parts c taken ≡ front ∷ parts c a.now)) → taken ≡ rest → n ≡ i → (i < length (parts c s)) × (front ≡ get_or (parts c s) i [])
+part_at c n i s rest taken front o left took same at =
+    let h = some_front c taken front o took in
+    let got = here_part n (parts c s) h.0 front (sym left ∙ ap (parts c) (sym same) ∙ h.1) in
+    (omega (arith, got.0), got.1 ∙ ap (λ k. get_or (parts c s) k []) at)
 
 -- `parts` are parts
 clear_cons : (c b : ℕ) (p : List ℕ) → (b ≡ c → ⊥) → LacksByte c p → LacksByte c (b ∷ p)

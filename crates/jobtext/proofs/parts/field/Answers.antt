@@ -1,7 +1,7 @@
-use Rattle.std.proofs.Common.{◌≡◌, [], ◌∷◌, get_or, drop, sym, refl, ap, ◌∙◌, arith}
+use Rattle.std.proofs.Common.{sym, refl, ◌∙◌, arith, rules}
 use Rattle.std.proofs.lemmas.Option.{MatchOption-at_some, MatchOption-at_none}
 use Rattle.jobtext.specs.Parts.{parts}
-use Rattle.jobtext.proofs.PartLaws.{next_parts, here_part, last_part, some_front}
+use Rattle.jobtext.proofs.PartLaws.{next_parts, last_part, part_at}
 use Rattle.jobtext.proofs.parts.field.Goals as goal
 
 pub loop-init : goal.loop-init
@@ -18,9 +18,4 @@ loop-preserved c =
     next_parts c.loop.counter (parts 44 c.args.line.now) _ _ (sym c.loop.invariant ∙ h.1)
 
 pub returns : goal.returns
-returns c =
-    let h = some_front 44 _ c.cut-2.result.0.now c.cut-2.result.1 c.cut-2.ensures in
-    let at : c.loop.counter ≡ c.args.index = omega arith in
-    let left : drop c.loop.counter (parts 44 c.args.line.now) ≡ c.cut-2.result.0.now ∷ h.0 = cc (c.loop.invariant, h.1) in
-    let got = here_part c.loop.counter (parts 44 c.args.line.now) h.0 _ left in
-    (omega (arith, got.0), got.1 ∙ ap (λ i. get_or (parts 44 c.args.line.now) i []) at)
+returns c = part_at 44 c.loop.counter c.args.index c.args.line.now c.loop.rest.now _ _ c.cut-2.result.1 c.loop.invariant c.cut-2.ensures (search rules) (omega arith)
