@@ -47,7 +47,7 @@ fn follow_one<K: Plain>(rt: &impl Abort, planner: &mut Planner<K>, step: Step) -
         Step::Add(offers) => {
             assert_eq!(rt; refused(planner.add(&block_of(offers)?)), None);
             Ok(())
-        },
+        }
         Step::AddRefused(offers, number) => {
             assert_eq!(rt; refused(planner.add(&block_of(offers)?)), Some(number));
             Ok(())
@@ -55,15 +55,15 @@ fn follow_one<K: Plain>(rt: &impl Abort, planner: &mut Planner<K>, step: Step) -
         Step::TakeBack => {
             assert_eq!(rt; refused(planner.take_back()), None);
             Ok(())
-        },
+        }
         Step::TakeBackRefused(number) => {
             assert_eq!(rt; refused(planner.take_back()), Some(number));
             Ok(())
-        },
+        }
         Step::Standing(blocks) => {
             assert_eq!(rt; planner.standing(), blocks);
             Ok(())
-        },
+        }
         Step::Plan(budget, entries, answer, list) => {
             assert_eq!(rt; plan_in(planner, budget, entries), (answer, list));
             Ok(())
