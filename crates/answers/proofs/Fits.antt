@@ -28,28 +28,28 @@ word_most Answer = omega arith
 module _ (line budget bits cost : ℕ) (grades : List ℕ) (l : line < 2 ^ 32) (b : budget < 2 ^ 32) (m : bits < 2 ^ 32) (c : cost < 2 ^ 32) (few : length grades ≤ 64) (small : AllByRecursion (λ grade. grade < 100) grades) where
   plan_fits : length (plan_text line budget bits cost grades) ≤ longest
   plan_fits =
-      let after-cost : List ℕ = flat_map after_comma grades ++ line_feed in
-      let after-bits : List ℕ = after_comma cost ++ after-cost in
-      let after-budget : List ℕ = after_comma bits ++ after-bits in
-      let after_line : List ℕ = after_comma budget ++ after-budget in
-      let tail : length after-cost ≤ 193 = simp length-append (omega (arith, grades_most grades small)) in
-      omega (arith, field_then line 226 after_line l (field_then budget 215 after-budget b (field_then bits 204 after-bits m (field_then cost 193 after-cost c tail))))
+      let after_cost : List ℕ = flat_map after_comma grades ++ line_feed in
+      let after_bits : List ℕ = after_comma cost ++ after_cost in
+      let after_budget : List ℕ = after_comma bits ++ after_bits in
+      let after_line : List ℕ = after_comma budget ++ after_budget in
+      let tail : length after_cost ≤ 193 = simp length-append (omega (arith, grades_most grades small)) in
+      omega (arith, field_then line 226 after_line l (field_then budget 215 after_budget b (field_then bits 204 after_bits m (field_then cost 193 after_cost c tail))))
 
 module _ (line bound bits : ℕ) (l : line < 2 ^ 32) (b : bound < 2 ^ 32) (m : bits < 2 ^ 32) where
   bits_fits : length (bits_text line bound bits) ≤ longest
   bits_fits =
-      let after-bound : List ℕ = after_comma bits ++ line_feed in
-      let after_line : List ℕ = after_comma bound ++ after-bound in
-      omega (arith, field_then line 23 after_line l (field_then bound 12 after-bound b (field_then bits 1 line_feed m (omega arith))))
+      let after_bound : List ℕ = after_comma bits ++ line_feed in
+      let after_line : List ℕ = after_comma bound ++ after_bound in
+      omega (arith, field_then line 23 after_line l (field_then bound 12 after_bound b (field_then bits 1 line_feed m (omega arith))))
 
 module _ (line field : ℕ) (layer : Layer) (number : ℕ) (l : line < 2 ^ 32) (f : field < 2 ^ 32) (n : number < 2 ^ 32) where
   fault_fits : length (fault_text line field layer number) ≤ longest
   fault_fits =
-      let after-layer : List ℕ = after_comma number ++ line_feed in
-      let after-field : List ℕ = codes "," ++ (layer_name layer ++ after-layer) in
-      let after_line : List ℕ = after_comma field ++ after-field in
-      let tail : length after-field ≤ 20 = omega (arith, length-append (layer_name layer) after-layer, word_most layer, field_then number 1 line_feed n (omega arith)) in
-      omega (arith, field_then line 31 after_line l (field_then field 20 after-field f tail))
+      let after_layer : List ℕ = after_comma number ++ line_feed in
+      let after_field : List ℕ = codes "," ++ (layer_name layer ++ after_layer) in
+      let after_line : List ℕ = after_comma field ++ after_field in
+      let tail : length after_field ≤ 20 = omega (arith, length-append (layer_name layer) after_layer, word_most layer, field_then number 1 line_feed n (omega arith)) in
+      omega (arith, field_then line 31 after_line l (field_then field 20 after_field f tail))
 
 pub every_line_fits : EveryLineFits longest
 every_line_fits = record { plan = plan_fits; bits = bits_fits; fault = fault_fits }

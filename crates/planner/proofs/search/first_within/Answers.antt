@@ -1,5 +1,5 @@
-use Rattle.std.proofs.Common.{◌≡◌, ℕ, ◌<◌, sym, ap, ◌∙◌, arith, below_more}
-use Rattle.planner.specs.Search.{Within}
+use Rattle.std.proofs.Common.{◌≡◌, ℕ, ◌<◌, Some, sym, ap, ◌∙◌, arith, below_more}
+use Rattle.planner.specs.Search.{FirstWithin, Within}
 use Rattle.planner.proofs.search.first_within.Goals as goal
 use Rattle.planner.proofs.search.first_within.Goals.{else-place-via-then-place+else-no_dearer, else-place-via-else-place}
 
@@ -33,4 +33,6 @@ returns-then-no_dearer g c =
     let p = c.place_at-place.result in
     let is = c.place_at-place.ensures in
     let ranked : m.ranks p.cost c.args.bound ≡ _ = sym c.no_dearer.ensures ∙ c.if-no_dearer.true in
-    (omega arith, (c.loop-grade.grade, omega arith, (sym (ap (λ x. x.reached) is) ∙ c.if-place.true, sym (ap (λ x. m.ranks x.cost c.args.bound) is) ∙ ranked)), λ b k lt-b lt-k. c.seek.invariant.1 b k lt-b (omega arith))
+    let found : FirstWithin m t c.args.places.now c.args.base c.args.bound (Some c.seek.bits) =
+    (omega arith, (c.loop-grade.grade, omega arith, (sym (ap (λ x. x.reached) is) ∙ c.if-place.true, sym (ap (λ x. m.ranks x.cost c.args.bound) is) ∙ ranked)), λ b k lt-b lt-k. c.seek.invariant.1 b k lt-b (omega arith)) in
+    found
