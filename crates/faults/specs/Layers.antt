@@ -1,7 +1,7 @@
 -- The word for each layer. Assumes nothing.
-use Rattle.std.specs.Prelude.{ℕ, List, codes}
-use Rattle.faults.specs.declared.Layer.{Layer}
-use Rattle.faults.specs.declared.Layer.TheVariants.{Text, Terms, Block, Planner, Answer}
+use Rattle.std.specs.Prelude.{ℕ, List, ◌∷◌, ◌++◌, codes, decimal}
+use Rattle.faults.specs.declared.layer.Layer.{Layer}
+use Rattle.faults.specs.declared.layer.Layer.TheVariants.{Text, Terms, Block, Planner, Answer}
 
 abbrev pub layer_name : Layer → List ℕ
 layer_name Text = codes "text"
@@ -9,3 +9,7 @@ layer_name Terms = codes "terms"
 layer_name Block = codes "block"
 layer_name Planner = codes "planner"
 layer_name Answer = codes "answer"
+
+-- how a fault is shown: the word of its layer, a space and its number
+abbrev pub fault_text : Layer → ℕ → List ℕ
+fault_text layer number = layer_name layer ++ 32 ∷ decimal number

@@ -1,30 +1,10 @@
-// What refusals share: the layer that each belongs to.
+// What refusals share: the layer that each belongs to, its number, and the check of a number that has limits.
 #![tactic(auto)]
 
-ghost use Rattle.std.specs.Prelude.{◌≡◌};
-ghost use Rattle.faults.specs.Layers.{layer_name};
+mod fault;
+mod layer;
+mod limits;
 
-// The part of the product that refuses.
-#[derive(Clone, Copy, PartialEq, Eq, Debug)]
-pub enum Layer {
-    Text,
-    Terms,
-    Block,
-    Planner,
-    Answer,
-}
-
-impl Layer {
-    // The word that a fault line shows for the layer.
-    pub fn name(self) -> &'static str
-        ensures { result.now ≡ layer_name self }
-    {
-        match self {
-            Layer::Text => "text",
-            Layer::Terms => "terms",
-            Layer::Block => "block",
-            Layer::Planner => "planner",
-            Layer::Answer => "answer",
-        }
-    }
-}
+pub use crate::fault::{Fault, refusal_number};
+pub use crate::layer::Layer;
+pub use crate::limits::Limits;
