@@ -1,5 +1,5 @@
 pub mod Faults
 pub mod Texts
-pub mod Pieces
 pub mod Room
+pub mod Sinks
 pub mod Longest

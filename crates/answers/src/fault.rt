@@ -1,40 +1,38 @@
 // What is refused of an answer line, with its number and its layer.
-ghost use Rattle.std.specs.Prelude.{◌≡◌, ◌∷◌, ◌++◌, Some, decimal};
-ghost use Rattle.faults.specs.Layers.{layer_name};
+ghost use Rattle.std.specs.Prelude.{◌≡◌, Some};
+ghost use Rattle.faults.specs.Layers.{fault_text};
 ghost use Rattle.answers.specs.Faults.{answer_number, answer_layer};
 
-use faults::Layer;
+use faults::{Fault, Layer};
 use std::error::Error;
 use std::fmt;
 
 // `RoomShort`: the line and its line feed want more bytes than the room has.
 #[derive(Clone, Copy, PartialEq, Eq, Debug)]
 pub enum AnswerFault {
-    RoomShort,
+    RoomShort = 40,
 }
 
-impl AnswerFault {
-    pub fn number(self) -> u32
-        ensures { result ≡ answer_number self }
-    {
-        match self {
-            AnswerFault::RoomShort => 40,
-        }
+impl Fault for AnswerFault {
+    ghost layers = { answer_layer };
+
+    ghost numbers = { answer_number };
+
+    fn layer(self) -> Layer {
+        Layer::Answer
     }
 
-    pub fn layer(self) -> Layer
-        ensures { result ≡ answer_layer self }
-    {
-        Layer::Answer
+    fn number(self) -> u32 {
+        self as u32
     }
 }
 
 // The layer and the number, `answer 40`.
 impl fmt::Display for AnswerFault {
-    ghost output = { λ fault. Some (layer_name (answer_layer fault) ++ 32 ∷ decimal (answer_number fault)) };
+    ghost output = { λ fault. Some (fault_text (answer_layer fault) (answer_number fault)) };
 
     fn fmt<W: fmt::Write>(&self, f: &mut fmt::Formatter<W>) -> fmt::Result {
-        let layer = self.layer().name();
+        let layer = self.layer();
         let number = self.number();
         write!(f, "{layer} {number}")
     }

@@ -2,10 +2,9 @@
 #![tactic(auto)]
 
 mod fault;
+mod line;
 mod lines;
-mod measure;
-mod piece;
-mod write;
+mod sink;
 
 pub use crate::fault::AnswerFault;
 pub use crate::lines::{LONGEST, bits_line, fault_line, longest_line, plan_line};

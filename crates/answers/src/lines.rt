@@ -1,18 +1,15 @@
 // The answer lines. Each call writes one line with its line feed from the first byte of the room on, answers how many bytes
 // that took, and leaves the bytes after them alone; where the room is too small for the whole line it writes none of it.
 ghost use Rattle.std.specs.Prelude.{◌≡◌};
-ghost use Rattle.std.specs.List.{flat_map};
 ghost use Rattle.faults.specs.Refusals.{first, refusal};
 ghost use Rattle.answers.specs.Faults.{answer_number, line_row};
 ghost use Rattle.answers.specs.Texts.{plan_text, bits_text, fault_text};
-ghost use Rattle.answers.specs.Pieces.{piece_text};
 ghost use Rattle.answers.specs.Room.{Answered};
 ghost use Rattle.answers.specs.Longest.{longest, EveryLineFits};
 
 use crate::fault::AnswerFault;
-use crate::measure::left_after_all;
-use crate::piece::Piece;
-use crate::write::put_all;
+use crate::line::{Line, put_numbers, write_line};
+use crate::sink::Sink;
 use faults::Layer;
 
 // Room for any answer line of at most 64 grades below 100: the longest has four numbers of ten digits and 64 grades of two.
@@ -21,18 +18,68 @@ pub const LONGEST: usize = 241;
 // The byte that ends every line.
 const LINE_FEED: &[u8] = b"\n";
 
-// Writes the pieces one after the other, or nothing at all where they do not fit.
-fn write_line(room: &mut [u8], pieces: &[Piece]) -> Result<usize, AnswerFault>
-    ensures refused { refusal answer_number result ≡ first (line_row (flat_map piece_text pieces.now) room.old) }
-    ensures answered { Answered (flat_map piece_text pieces.now) room.old room.new result }
-{
-    match left_after_all(room.len(), pieces) {
-        Some(_) => Ok(put_all(room, pieces)),
-        None => Err(AnswerFault::RoomShort),
+// `plan,line,budget,bits,cost`, and a comma and a grade for each block, oldest first.
+#[derive(Drop)]
+struct PlanLine<'a> {
+    line: u32,
+    budget: u32,
+    bits: u32,
+    cost: u32,
+    grades: &'a [u8],
+}
+
+impl Line for PlanLine<'_> {
+    ghost text = { λ l. plan_text l.line l.budget l.bits l.cost l.grades.now };
+
+    fn put<S: Sink>(&self, out: &mut S) {
+        out.put(b"plan");
+        put_numbers(out, &[self.line, self.budget, self.bits, self.cost]);
+        put_numbers(out, self.grades);
+        out.put(LINE_FEED);
     }
 }
 
-// Writes `plan,line,budget,bits,cost,` and the grades, oldest block first; with no grades the line ends after the cost.
+// `bits,line,bound,bits`.
+#[derive(Drop)]
+struct BitsLine {
+    line: u32,
+    bound: u32,
+    bits: u32,
+}
+
+impl Line for BitsLine {
+    ghost text = { λ l. bits_text l.line l.bound l.bits };
+
+    fn put<S: Sink>(&self, out: &mut S) {
+        out.put(b"bits");
+        put_numbers(out, &[self.line, self.bound, self.bits]);
+        out.put(LINE_FEED);
+    }
+}
+
+// `fault,line,field,layer,number`, the layer by its word.
+#[derive(Drop)]
+struct FaultLine {
+    line: u32,
+    field: u32,
+    layer: Layer,
+    number: u32,
+}
+
+impl Line for FaultLine {
+    ghost text = { λ l. fault_text l.line l.field l.layer l.number };
+
+    fn put<S: Sink>(&self, out: &mut S) {
+        out.put(b"fault");
+        put_numbers(out, &[self.line, self.field]);
+        out.put(b",");
+        out.put(self.layer.name().as_bytes());
+        put_numbers(out, &[self.number]);
+        out.put(LINE_FEED);
+    }
+}
+
+// Writes the line of a plan; with no grades it ends after the cost.
 pub fn plan_line(
     room: &mut [u8],
     line: u32,
@@ -46,36 +93,25 @@ pub fn plan_line(
 {
     write_line(
         room,
-        &[
-            Piece::Text(b"plan"),
-            Piece::Field(line),
-            Piece::Field(budget),
-            Piece::Field(bits),
-            Piece::Field(cost),
-            Piece::Grades(grades),
-            Piece::Text(LINE_FEED),
-        ],
+        &PlanLine {
+            line,
+            budget,
+            bits,
+            cost,
+            grades,
+        },
     )
 }
 
-// Writes `bits,line,bound,bits`.
+// Writes the line of the fewest bits within a bound.
 pub fn bits_line(room: &mut [u8], line: u32, bound: u32, bits: u32) -> Result<usize, AnswerFault>
     ensures refused { refusal answer_number result ≡ first (line_row (bits_text line bound bits) room.old) }
     ensures answered { Answered (bits_text line bound bits) room.old room.new result }
 {
-    write_line(
-        room,
-        &[
-            Piece::Text(b"bits"),
-            Piece::Field(line),
-            Piece::Field(bound),
-            Piece::Field(bits),
-            Piece::Text(LINE_FEED),
-        ],
-    )
+    write_line(room, &BitsLine { line, bound, bits })
 }
 
-// Writes `fault,line,field,layer,number`, the layer by its word.
+// Writes the line of a fault.
 pub fn fault_line(
     room: &mut [u8],
     line: u32,
@@ -86,18 +122,14 @@ pub fn fault_line(
     ensures refused { refusal answer_number result ≡ first (line_row (fault_text line field layer number) room.old) }
     ensures answered { Answered (fault_text line field layer number) room.old room.new result }
 {
-    let word = layer.name().as_bytes();
     write_line(
         room,
-        &[
-            Piece::Text(b"fault"),
-            Piece::Field(line),
-            Piece::Field(field),
-            Piece::Text(b","),
-            Piece::Text(word),
-            Piece::Field(number),
-            Piece::Text(LINE_FEED),
-        ],
+        &FaultLine {
+            line,
+            field,
+            layer,
+            number,
+        },
     )
 }
 
