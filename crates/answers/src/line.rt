@@ -17,13 +17,20 @@ pub(crate) trait Line {
         ensures { S.takes out.old (text self.now) out.new };
 }
 
+// Puts a comma and a number.
+pub(crate) fn put_number<S: Sink, N: Integer>(out: &mut S, number: N)
+    ensures { S.takes out.old (44 ∷ N.text number) out.new }
+{
+    out.put(b",");
+    out.put(Buffer::new().format(number).as_bytes());
+}
+
 // Puts a comma and a number for each of them.
 pub(crate) fn put_numbers<S: Sink, N: Integer>(out: &mut S, numbers: &[N])
     ensures { S.takes out.old (flat_map (λ number. 44 ∷ N.text number) numbers.now) out.new }
 {
     for number in numbers {
-        out.put(b",");
-        out.put(Buffer::new().format(*number).as_bytes());
+        put_number(out, *number);
     }
 }
 

@@ -8,7 +8,7 @@ ghost use Rattle.answers.specs.Room.{Answered};
 ghost use Rattle.answers.specs.Longest.{longest, EveryLineFits};
 
 use crate::fault::AnswerFault;
-use crate::line::{Line, put_numbers, write_line};
+use crate::line::{Line, put_number, put_numbers, write_line};
 use crate::sink::Sink;
 use faults::Layer;
 
@@ -74,7 +74,7 @@ impl Line for FaultLine {
         put_numbers(out, &[self.line, self.field]);
         out.put(b",");
         out.put(self.layer.name().as_bytes());
-        put_numbers(out, &[self.number]);
+        put_number(out, self.number);
         out.put(LINE_FEED);
     }
 }

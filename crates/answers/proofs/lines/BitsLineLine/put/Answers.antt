@@ -1,9 +1,9 @@
-use Rattle.std.proofs.Common.{rules, subst}
+use Rattle.std.proofs.Common.{rules}
 use Rattle.std.proofs.lemmas.Grind.{common_steps}
 use Rattle.answers.proofs.lines.BitsLineLine.put.Goals as goal
 
 pub returns : goal.returns
 returns g c =
     let both = g.met.S.Sink.takes_both in
-    subst (λ text. g.S.Sink.takes c.args.out.now text c.put-2.new.self) (search (rules, common_steps))
-    (both _ _ _ _ _ c.put.ensures (both _ _ _ _ _ c.put_numbers.ensures c.put-2.ensures))
+    let all = both _ _ _ _ _ c.put.ensures (both _ _ _ _ _ c.put_numbers.ensures c.put-2.ensures) in
+    search (rules, common_steps)
