@@ -1,5 +1,6 @@
 // What the tests look at after a call. Before it, every byte of the room is a dot.
 use answers::AnswerFault;
+use faults::Fault;
 use std::process::Abort;
 use std::test::Fail;
 
@@ -32,18 +33,26 @@ pub(crate) fn check_refused(
     }
 }
 
-// The text was written if the room is as long as it, and refused if not.
-pub(crate) fn check_fitting(
+// In rooms of every size below N, the text is written if the room is as long as it, and refused if not.
+pub(crate) fn check_rooms<const N: usize, F: Fn(&mut [u8]) -> Result<usize, AnswerFault>>(
     rt: &impl Abort,
-    room: &[u8],
-    answer: Result<usize, AnswerFault>,
+    dots: [u8; N],
     text: &str,
-) -> Result<(), Fail> {
-    if room.len() < text.len() {
-        check_refused(rt, room, answer)
-    } else {
-        check_written(rt, room, answer, text)
+    call: F,
+) -> Result<(), Fail>
+    requires { F.IsAlwaysCallable call }
+{
+    for size in 0..N {
+        let mut bytes = dots;
+        let room = &mut bytes[..size];
+        let answer = call(room);
+        if size < text.len() {
+            check_refused(rt, room, answer)?;
+        } else {
+            check_written(rt, room, answer, text)?;
+        }
     }
+    Ok(())
 }
 
 fn check_dots(rt: &impl Abort, bytes: &[u8]) -> Result<(), Fail> {

@@ -1,7 +1,7 @@
 // Rooms that are too small by much or by one byte, rooms that just fit, and larger ones.
-use crate::room_checks::{check_fitting, check_refused};
+use crate::room_checks::{check_refused, check_rooms};
 use answers::{AnswerFault, LONGEST, bits_line, fault_line, plan_line};
-use faults::Layer;
+use faults::{Fault, Layer};
 use std::test::Fail;
 
 #[test]
@@ -9,10 +9,8 @@ fn five_bytes_are_refused_and_left_alone(rt: HostRuntime) -> Result<(), Fail> {
     let mut room = [b'.'; 5];
     let answer = bits_line(&mut room, 7, 13, 6);
     check_refused(&rt, &room, answer)?;
-    let mut room = [b'.'; 5];
     let answer = plan_line(&mut room, 5, 6, 6, 11, &[0, 1]);
     check_refused(&rt, &room, answer)?;
-    let mut room = [b'.'; 5];
     let answer = fault_line(&mut room, 4, 0, Layer::Planner, 35);
     check_refused(&rt, &room, answer)
 }
@@ -20,37 +18,25 @@ fn five_bytes_are_refused_and_left_alone(rt: HostRuntime) -> Result<(), Fail> {
 // With its line feed the line has 12 bytes.
 #[test]
 fn a_line_of_bits_in_rooms_of_0_to_19_bytes(rt: HostRuntime) -> Result<(), Fail> {
-    for size in 0..20 {
-        let mut bytes = [b'.'; 20];
-        let room = &mut bytes[..size];
-        let answer = bits_line(room, 7, 13, 6);
-        check_fitting(&rt, room, answer, "bits,7,13,6\n")?;
-    }
-    Ok(())
+    check_rooms(&rt, [b'.'; 20], "bits,7,13,6\n", |room| {
+        bits_line(room, 7, 13, 6)
+    })
 }
 
 // With its line feed the line has 18 bytes.
 #[test]
 fn a_plan_in_rooms_of_0_to_29_bytes(rt: HostRuntime) -> Result<(), Fail> {
-    for size in 0..30 {
-        let mut bytes = [b'.'; 30];
-        let room = &mut bytes[..size];
-        let answer = plan_line(room, 5, 6, 6, 11, &[0, 1]);
-        check_fitting(&rt, room, answer, "plan,5,6,6,11,0,1\n")?;
-    }
-    Ok(())
+    check_rooms(&rt, [b'.'; 30], "plan,5,6,6,11,0,1\n", |room| {
+        plan_line(room, 5, 6, 6, 11, &[0, 1])
+    })
 }
 
 // With its line feed the line has 21 bytes.
 #[test]
 fn a_fault_in_rooms_of_0_to_29_bytes(rt: HostRuntime) -> Result<(), Fail> {
-    for size in 0..30 {
-        let mut bytes = [b'.'; 30];
-        let room = &mut bytes[..size];
-        let answer = fault_line(room, 4, 0, Layer::Planner, 35);
-        check_fitting(&rt, room, answer, "fault,4,0,planner,35\n")?;
-    }
-    Ok(())
+    check_rooms(&rt, [b'.'; 30], "fault,4,0,planner,35\n", |room| {
+        fault_line(room, 4, 0, Layer::Planner, 35)
+    })
 }
 
 #[test]

@@ -6,15 +6,23 @@ use std::test::Fail;
 
 #[test]
 fn plans(rt: HostRuntime) -> Result<(), Fail> {
-    let mut room = [b'.'; 40];
-    let answer = plan_line(&mut room, 5, 6, 6, 11, &[0, 1]);
-    check_written(&rt, &room, answer, "plan,5,6,6,11,0,1\n")?;
-    let mut room = [b'.'; 40];
-    let answer = plan_line(&mut room, 10, 7, 4, 1, &[1]);
-    check_written(&rt, &room, answer, "plan,10,7,4,1,1\n")?;
-    let mut room = [b'.'; 40];
-    let answer = plan_line(&mut room, 1, 2, 3, 4, &[9, 10, 15, 99, 100, 255]);
-    check_written(&rt, &room, answer, "plan,1,2,3,4,9,10,15,99,100,255\n")
+    for (line, budget, bits, cost, grades, text) in [
+        (5, 6, 6, 11, [0, 1].as_slice(), "plan,5,6,6,11,0,1\n"),
+        (10, 7, 4, 1, &[1], "plan,10,7,4,1,1\n"),
+        (
+            1,
+            2,
+            3,
+            4,
+            &[9, 10, 15, 99, 100, 255],
+            "plan,1,2,3,4,9,10,15,99,100,255\n",
+        ),
+    ] {
+        let mut room = [b'.'; 40];
+        let answer = plan_line(&mut room, line, budget, bits, cost, grades);
+        check_written(&rt, &room, answer, text)?;
+    }
+    Ok(())
 }
 
 #[test]
