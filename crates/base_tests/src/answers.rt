@@ -1,46 +1,18 @@
-// Answers as plain numbers, so that a test says what it expects in numbers alone.
-ghost use Rattle.std.specs.Prelude.{◌≡◌};
-ghost use Rattle.faults.specs.Refusals.{refusal};
-ghost use Rattle.offers.specs.Faults.{block_number};
-ghost use Rattle.terms.specs.Faults.{terms_number};
-
+// Answers as plain numbers, so that a test says what it expects in numbers alone, and blocks and terms to ask.
 use offers::{Block, BlockFault, Offer, OwnBlock, offers_below};
 use terms::{Terms, TermsFault};
 
-// The number of a block's refusal, none where the call did not refuse.
-pub(crate) fn block_refusal<T: Drop>(res: Result<T, BlockFault>) -> Option<u32>
-    ensures { result ≡ refusal block_number res }
-{
-    match res {
-        Ok(_) => None,
-        Err(fault) => Some(fault.number()),
-    }
-}
-
-// The number of a refusal of terms, none where the call did not refuse.
-pub(crate) fn terms_refusal<T: Drop>(res: Result<T, TermsFault>) -> Option<u32>
-    ensures { result ≡ refusal terms_number res }
-{
-    match res {
-        Ok(_) => None,
-        Err(fault) => Some(fault.number()),
-    }
-}
-
 // The rate and the distortion of an offer.
 pub(crate) fn numbers(offer: Option<Offer>) -> Option<(u16, u32)> {
-    match offer {
-        Some(offer) => Some((offer.rate(), offer.distortion())),
-        None => None,
-    }
+    offer.map(|offer| (offer.rate(), offer.distortion()))
 }
 
 // The charge of every change of grade, by the grade before and the grade after.
 pub(crate) fn charges(terms: &Terms) -> [[u32; 16]; 16] {
     let mut charges = [[0; 16]; 16];
-    for from in 0..16u8 {
-        for to in 0..16u8 {
-            charges[from as usize][to as usize] = terms.charge_into(Some(from), to);
+    for (from, row) in (0..16u8).zip(&mut charges) {
+        for (to, charge) in (0..16u8).zip(row) {
+            *charge = terms.charge_into(Some(from), to);
         }
     }
     charges

@@ -1,7 +1,9 @@
 // Counting choices: their bits and their costs, and what is no choice.
-use crate::answers::{flat_terms, terms_refusal, two_grades};
+use crate::answers::{flat_terms, two_grades};
 use costs::{Total, Worst};
+use faults::refusal_number;
 use offers::{Block, GainBlock, offers_below};
+use std::array::from_fn;
 use std::test::Fail;
 use terms::{count_choice, worked_values};
 
@@ -31,7 +33,7 @@ fn the_four_choices_of_two_blocks(rt: HostRuntime) -> Result<(), Fail> {
 #[test]
 fn charges_count_by_their_direction(rt: HostRuntime) -> Result<(), Fail> {
     let mut terms = flat_terms(2, 10, 20)?;
-    assert_eq!(rt; terms_refusal(terms.set_pair(0, 1, 100)), None);
+    assert_eq!(rt; refusal_number(terms.set_pair(0, 1, 100)), None);
     let blocks = [two_grades((1, 9), (4, 1))?; 3];
     for (grades, bits) in [
         ([0, 0, 0], 3),
@@ -43,10 +45,8 @@ fn charges_count_by_their_direction(rt: HostRuntime) -> Result<(), Fail> {
         ([1, 1, 0], 29),
         ([1, 1, 1], 12),
     ] {
-        match count_choice::<Total>(&terms, &blocks, &grades) {
-            Some((counted, _)) => assert_eq!(rt; counted, bits),
-            None => return Err(Fail::new("no choice")),
-        }
+        let counted = count_choice::<Total>(&terms, &blocks, &grades);
+        assert_eq!(rt; counted.map(|(bits, _)| bits), Some(bits));
     }
     Ok(())
 }
@@ -92,11 +92,7 @@ fn sixteen_grades_are_the_most(rt: HostRuntime) -> Result<(), Fail> {
 
 // Grades 0 and 1 in turn, 64 of them.
 fn alternating() -> [u8; 64] {
-    let mut grades = [0; 64];
-    for n in 0..32usize {
-        grades[2 * n + 1] = 1;
-    }
-    grades
+    from_fn(|n| (n % 2) as u8)
 }
 
 #[test]

@@ -1,5 +1,5 @@
 // The number and the layer of each fault, and the word for each layer.
-use faults::Layer;
+use faults::{Fault, Layer};
 use offers::BlockFault;
 use std::test::Fail;
 use terms::TermsFault;

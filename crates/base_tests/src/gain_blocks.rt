@@ -1,5 +1,6 @@
 // Gain blocks: their ranges, and the rate and the distortion of each grade.
-use crate::answers::{block_refusal, numbers};
+use crate::answers::numbers;
+use faults::refusal_number;
 use offers::{GainBlock, Source, eighths_table};
 use std::test::Fail;
 
@@ -24,7 +25,7 @@ fn samples_run_from_1_to_256_and_gains_from_1_to_255(rt: HostRuntime) -> Result<
         (256, 256, Some(23)),
         (256, 255, None),
     ] {
-        assert_eq!(rt; block_refusal(GainBlock::new(samples, gain)), refused);
+        assert_eq!(rt; refusal_number(GainBlock::new(samples, gain)), refused);
     }
     assert_eq!(rt; GainBlock::new(256, 255)?.samples(), 256);
     assert_eq!(rt; GainBlock::new(256, 255)?.gain(), 255);
@@ -65,8 +66,8 @@ fn eight_samples_take_the_eighths_and_gain_1_the_profile(rt: HostRuntime) -> Res
         (61, 1),
         (64, 1),
     ];
-    for grade in 0..16u8 {
-        assert_eq!(rt; numbers(block.offer(grade)), Some(expected[grade as usize]));
+    for (grade, offered) in (0..16u8).zip(expected) {
+        assert_eq!(rt; numbers(block.offer(grade)), Some(offered));
     }
     Ok(())
 }

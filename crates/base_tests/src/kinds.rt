@@ -1,5 +1,5 @@
 // Cost kinds: where each starts, what joining gives, and how values rank.
-use costs::{Kind, Total, Worst, worst_then_total_is_no_kind};
+use costs::{Kind, Numbered, Total, Worst, worst_then_total_is_no_kind};
 
 #[test]
 fn totals_add_and_stop_at_the_largest_number(rt: HostRuntime) {
@@ -41,6 +41,18 @@ fn both_kinds_rank_by_size(rt: HostRuntime) {
     ] {
         assert_eq!(rt; Total(one).no_dearer(Total(other)), ranks);
         assert_eq!(rt; Worst(one).no_dearer(Worst(other)), ranks);
+    }
+}
+
+#[test]
+fn both_kinds_have_a_word_and_a_number_for_each_cost(rt: HostRuntime) {
+    assert_eq!(rt; <Total as Numbered>::name(), "total");
+    assert_eq!(rt; <Worst as Numbered>::name(), "worst");
+    for number in [0, 7, 4294967295] {
+        assert_eq!(rt; <Total as Numbered>::of(number), Total(number));
+        assert_eq!(rt; <Worst as Numbered>::of(number), Worst(number));
+        assert_eq!(rt; Total(number).number(), number);
+        assert_eq!(rt; Worst(number).number(), number);
     }
 }
 

@@ -1,5 +1,6 @@
 // Own blocks: what their owner may set and clear, in which order calls refuse, and what a refused call leaves.
-use crate::answers::{block_refusal, numbers};
+use crate::answers::numbers;
+use faults::refusal_number;
 use offers::{OwnBlock, Source, offers_below};
 
 #[test]
@@ -29,7 +30,7 @@ fn set_at_the_edges_of_its_ranges(rt: HostRuntime) {
         (16, 5, 6, Some(26), None),
         (255, 5, 6, Some(26), None),
     ] {
-        assert_eq!(rt; block_refusal(block.set(grade, rate, distortion)), refused);
+        assert_eq!(rt; refusal_number(block.set(grade, rate, distortion)), refused);
         assert_eq!(rt; numbers(block.offer(grade)), left);
     }
     assert_eq!(rt; numbers(block.offer(0)), Some((1, 2)));
@@ -41,7 +42,7 @@ fn set_at_the_edges_of_its_ranges(rt: HostRuntime) {
 fn clear_at_the_edges_of_its_range(rt: HostRuntime) {
     let mut block = OwnBlock::new();
     for grade in 0..16u8 {
-        assert_eq!(rt; block_refusal(block.set(grade, 8, 9)), None);
+        assert_eq!(rt; refusal_number(block.set(grade, 8, 9)), None);
     }
     for (grade, refused, left) in [
         (16, Some(26), 16),
@@ -51,15 +52,10 @@ fn clear_at_the_edges_of_its_range(rt: HostRuntime) {
         (0, None, 14),
         (7, None, 13),
     ] {
-        assert_eq!(rt; block_refusal(block.clear(grade)), refused);
+        assert_eq!(rt; refusal_number(block.clear(grade)), refused);
         assert_eq!(rt; numbers(block.offer(grade)), None);
-        let mut offered = 0u32;
-        for other in 0..16u8 {
-            if block.offer(other).is_some() {
-                offered = offered.saturating_add(1);
-            }
-        }
-        assert_eq!(rt; offered, left);
+        let offered = (0..16u8).filter(|other| block.offer(*other).is_some());
+        assert_eq!(rt; offered.count(), left);
     }
     assert_eq!(rt; numbers(block.offer(1)), Some((8, 9)));
 }
@@ -75,7 +71,7 @@ fn the_grade_is_refused_before_the_rate_and_that_before_the_distortion(rt: HostR
         (15, 65535, 16777216, Some(21)),
         (15, 65535, 16777215, None),
     ] {
-        assert_eq!(rt; block_refusal(block.set(grade, rate, distortion)), refused);
+        assert_eq!(rt; refusal_number(block.set(grade, rate, distortion)), refused);
     }
 }
 
@@ -89,7 +85,7 @@ fn a_call_changes_its_grade_alone(rt: HostRuntime) {
         (2, 30, 40, Some((30, 40)), Some((10, 20)), Some((30, 40))),
         (3, 50, 60, Some((30, 40)), Some((50, 60)), Some((30, 40))),
     ] {
-        assert_eq!(rt; block_refusal(block.set(grade, rate, distortion)), None);
+        assert_eq!(rt; refusal_number(block.set(grade, rate, distortion)), None);
         let left = [
             numbers(block.offer(2)),
             numbers(block.offer(3)),
@@ -97,7 +93,7 @@ fn a_call_changes_its_grade_alone(rt: HostRuntime) {
         ];
         assert_eq!(rt; left, [second, third, fourth]);
     }
-    assert_eq!(rt; block_refusal(block.clear(3)), None);
+    assert_eq!(rt; refusal_number(block.clear(3)), None);
     let left = [
         numbers(block.offer(2)),
         numbers(block.offer(3)),
@@ -111,7 +107,7 @@ fn a_refused_call_leaves_every_offer(rt: HostRuntime) {
     let mut block = OwnBlock::new();
     for grade in 0..16u8 {
         assert_eq!(rt;
-            block_refusal(block.set(grade, 100 + grade as u32, 200)),
+            refusal_number(block.set(grade, 100 + grade as u32, 200)),
             None
         );
     }
@@ -124,13 +120,13 @@ fn a_refused_call_leaves_every_offer(rt: HostRuntime) {
         (7, 1, 16777216, 21),
     ] {
         assert_eq!(rt;
-            block_refusal(block.set(grade, rate, distortion)),
+            refusal_number(block.set(grade, rate, distortion)),
             Some(refused)
         );
         assert_eq!(rt; offers_below(&block, 16), before);
     }
-    assert_eq!(rt; block_refusal(block.clear(16)), Some(26));
+    assert_eq!(rt; refusal_number(block.clear(16)), Some(26));
     assert_eq!(rt; offers_below(&block, 16), before);
-    assert_eq!(rt; block_refusal(block.clear(7)), None);
+    assert_eq!(rt; refusal_number(block.clear(7)), None);
     assert_ne!(rt; offers_below(&block, 16), before);
 }

@@ -1,6 +1,6 @@
 // Layers, piles of them in both orders, one of two sources, and the list of offers below a number of grades.
 use crate::answers::{numbers, one_offer};
-use offers::{Either, Extra, GainBlock, OwnBlock, Source, Weight, offers_below};
+use offers::{Change, Either, Extra, GainBlock, OwnBlock, Source, Weight, offers_below};
 use std::test::Fail;
 
 #[test]
@@ -112,8 +112,8 @@ fn offers_from_the_number_of_grades_on_are_hidden(rt: HostRuntime) -> Result<(),
     let block = GainBlock::new(8, 1)?;
     for grades in 0..20u8 {
         let offers = offers_below(&block, grades);
-        for grade in 0..16u8 {
-            assert_eq!(rt; offers[grade as usize].is_some(), grade < grades);
+        for (grade, offer) in (0..16u8).zip(offers) {
+            assert_eq!(rt; offer.is_some(), grade < grades);
         }
     }
     let two = offers_below(&block, 2);

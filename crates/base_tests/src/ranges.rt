@@ -1,5 +1,6 @@
 // The checks of one number at a time, at both edges of each range.
-use crate::answers::{block_refusal, numbers};
+use crate::answers::numbers;
+use faults::refusal_number;
 use offers::{
     BlockFault, Extra, Offer, Weight, checked_distortion, checked_gain, checked_grade,
     checked_rate, checked_samples,
@@ -64,7 +65,7 @@ fn numbers_of_layers(rt: HostRuntime) -> Result<(), Fail> {
         (256, Some(24)),
         (4294967295, Some(24)),
     ] {
-        assert_eq!(rt; block_refusal(Weight::new(times)), refused);
+        assert_eq!(rt; refusal_number(Weight::new(times)), refused);
     }
     for (bits, refused) in [
         (0, None),
@@ -72,7 +73,7 @@ fn numbers_of_layers(rt: HostRuntime) -> Result<(), Fail> {
         (1024, Some(25)),
         (4294967295, Some(25)),
     ] {
-        assert_eq!(rt; block_refusal(Extra::new(bits)), refused);
+        assert_eq!(rt; refusal_number(Extra::new(bits)), refused);
     }
     assert_eq!(rt; Weight::new(255)?.times(), 255);
     assert_eq!(rt; Extra::new(1023)?.bits(), 1023);

@@ -1,5 +1,6 @@
 // Terms: their ranges, in which order calls refuse, what each call changes, and what a refused one leaves.
-use crate::answers::{charges, flat_terms, terms_refusal};
+use crate::answers::{charges, flat_terms};
+use faults::refusal_number;
 use std::test::Fail;
 use terms::Terms;
 
@@ -28,7 +29,7 @@ fn grades_run_from_1_to_16_and_ceilings_end_at_4095(rt: HostRuntime) {
         (16, 4096, Some(11), 16, 4095),
         (2, 0, None, 2, 0),
     ] {
-        assert_eq!(rt; terms_refusal(terms.reset(grades, ceiling)), refused);
+        assert_eq!(rt; refusal_number(terms.reset(grades, ceiling)), refused);
         assert_eq!(rt;
             (terms.grades(), terms.ceiling()),
             (grades_left, ceiling_left)
@@ -46,7 +47,7 @@ fn flat_charges_end_at_255_and_staying_is_free(rt: HostRuntime) -> Result<(), Fa
         (4294967295, Some(12), 255),
         (0, None, 0),
     ] {
-        assert_eq!(rt; terms_refusal(terms.set_flat(charge)), refused);
+        assert_eq!(rt; refusal_number(terms.set_flat(charge)), refused);
         for from in 0..16u8 {
             for to in 0..16u8 {
                 let expected = if from == to { 0 } else { left };
@@ -86,7 +87,7 @@ fn pairs_are_of_two_grades_below_the_number(rt: HostRuntime) -> Result<(), Fail>
         (4, 1, 3, 256, Some(12), 9, 9),
     ] {
         let mut terms = flat_terms(grades, 7, 9)?;
-        assert_eq!(rt; terms_refusal(terms.set_pair(from, to, charge)), refused);
+        assert_eq!(rt; refusal_number(terms.set_pair(from, to, charge)), refused);
         assert_eq!(rt; terms.charge_into(Some(from), to), there);
         assert_eq!(rt; terms.charge_into(Some(to), from), back);
     }
@@ -96,12 +97,12 @@ fn pairs_are_of_two_grades_below_the_number(rt: HostRuntime) -> Result<(), Fail>
 #[test]
 fn a_refused_call_leaves_the_terms(rt: HostRuntime) -> Result<(), Fail> {
     let mut terms = flat_terms(5, 77, 8)?;
-    assert_eq!(rt; terms_refusal(terms.set_pair(1, 2, 3)), None);
+    assert_eq!(rt; refusal_number(terms.set_pair(1, 2, 3)), None);
     let before = charges(&terms);
     assert_eq!(rt; (before[1][2], before[2][1]), (3, 8));
-    assert_eq!(rt; terms_refusal(terms.reset(17, 1)), Some(10));
-    assert_eq!(rt; terms_refusal(terms.reset(3, 4096)), Some(11));
-    assert_eq!(rt; terms_refusal(terms.set_flat(256)), Some(12));
+    assert_eq!(rt; refusal_number(terms.reset(17, 1)), Some(10));
+    assert_eq!(rt; refusal_number(terms.reset(3, 4096)), Some(11));
+    assert_eq!(rt; refusal_number(terms.set_flat(256)), Some(12));
     assert_eq!(rt; charges(&terms), before);
     for (from, to, charge, refused) in [
         (1, 2, 256, 12),
@@ -110,7 +111,7 @@ fn a_refused_call_leaves_the_terms(rt: HostRuntime) -> Result<(), Fail> {
         (2, 5, 1, 13),
     ] {
         assert_eq!(rt;
-            terms_refusal(terms.set_pair(from, to, charge)),
+            refusal_number(terms.set_pair(from, to, charge)),
             Some(refused)
         );
         assert_eq!(rt; charges(&terms), before);
@@ -122,13 +123,13 @@ fn a_refused_call_leaves_the_terms(rt: HostRuntime) -> Result<(), Fail> {
 #[test]
 fn reset_clears_every_charge_and_flat_overwrites_pairs(rt: HostRuntime) -> Result<(), Fail> {
     let mut terms = flat_terms(5, 77, 9)?;
-    assert_eq!(rt; terms_refusal(terms.set_pair(1, 2, 3)), None);
-    assert_eq!(rt; terms_refusal(terms.set_flat(8)), None);
+    assert_eq!(rt; refusal_number(terms.set_pair(1, 2, 3)), None);
+    assert_eq!(rt; refusal_number(terms.set_flat(8)), None);
     assert_eq!(rt;
         (terms.charge_into(Some(1), 2), terms.charge_into(Some(2), 1)),
         (8, 8)
     );
-    assert_eq!(rt; terms_refusal(terms.reset(5, 77)), None);
+    assert_eq!(rt; refusal_number(terms.reset(5, 77)), None);
     assert_eq!(rt; charges(&terms), [[0; 16]; 16]);
     Ok(())
 }

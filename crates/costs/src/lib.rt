@@ -3,10 +3,12 @@
 
 mod kind;
 mod no_kind;
+mod numbered;
 mod total;
 mod worst;
 
 pub use crate::kind::Kind;
 pub use crate::no_kind::{TurnedRound, WorstThenTotal, worst_then_total_is_no_kind};
+pub use crate::numbered::Numbered;
 pub use crate::total::Total;
 pub use crate::worst::Worst;

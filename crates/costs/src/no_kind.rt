@@ -18,6 +18,7 @@ pub struct TurnedRound {
 }
 
 // The example of why no planner may rank so: joining the same distortion to both values turns their ranking round.
+#[tactic(auto, using(crate::proofs::Turning::no_laws))]
 pub fn worst_then_total_is_no_kind() -> TurnedRound
     ensures is { result ≡ turned_round }
     ensures turns { Turns result }

@@ -1,11 +1,13 @@
 // The total distortion.
-ghost use Rattle.costs.specs.Kinds.{total_model};
+ghost use Rattle.std.specs.Prelude.{codes};
+ghost use Rattle.costs.specs.Kinds.{total_of, total_model};
 ghost use Rattle.std.proofs.Common.{rules};
 
 use crate::kind::Kind;
+use crate::numbered::Numbered;
 
 // The sum of the distortions, which stops at the largest number.
-#[derive(Clone, Copy, PartialEq, Eq, Debug)]
+#[derive(Clone, Copy, PartialEq, Eq, PartialOrd, Ord, Debug)]
 pub struct Total(pub u32);
 
 impl Kind for Total {
@@ -24,6 +26,30 @@ impl Kind for Total {
     }
 
     fn no_dearer(self, other: Total) -> bool {
-        self.0 <= other.0
+        self <= other
+    }
+}
+
+impl Numbered for Total {
+    ghost named = { codes "total" };
+
+    ghost of_number = { total_of };
+
+    ghost number_of = { λ cost. cost.0 };
+
+    ghost same_cost = { Prim.search rules };
+
+    ghost same_number = { Prim.search rules };
+
+    fn name() -> &'static str {
+        "total"
+    }
+
+    fn of(number: u32) -> Total {
+        Total(number)
+    }
+
+    fn number(self) -> u32 {
+        self.0
     }
 }

@@ -1,8 +1,8 @@
 -- What is refused of a block: the number of each case, and each call's row of cases. Assumes nothing.
 use Rattle.std.specs.Prelude.{ℕ, ◌||◌, [], ◌∷◌, ◌++◌, nat_lt}
 use Rattle.faults.specs.Refusals.{Row}
-use Rattle.faults.specs.declared.Layer.{Layer}
-use Rattle.faults.specs.declared.Layer.TheVariants.{Block}
+use Rattle.faults.specs.declared.layer.Layer.{Layer}
+use Rattle.faults.specs.declared.layer.Layer.TheVariants.{Block}
 use Rattle.offers.specs.declared.fault.BlockFault.{BlockFault}
 use Rattle.offers.specs.declared.fault.BlockFault.TheVariants.{RateRange, DistortionRange, SamplesRange, GainRange, WeightRange, ExtraRange, GradeRange}
 

@@ -1,5 +1,5 @@
 -- What a gain block means. Assumes nothing.
-use Rattle.std.specs.Prelude.{ℕ, ◌*◌, cond, Some, None, Option, nat_lt}
+use Rattle.std.specs.Prelude.{ℕ, ◌*◌, Some, None, Option, if◌then◌else◌, nat_lt}
 use Rattle.offers.specs.declared.offer.Offer.{Offer}
 use Rattle.offers.specs.declared.gain.GainBlock.{GainBlock}
 use Rattle.offers.specs.Levels.{levels, profile, rate_of}
@@ -10,4 +10,4 @@ gain_offer block n = record { rate = rate_of block.samples n; distortion = block
 
 -- every grade is offered
 abbrev pub gain_means : GainBlock → ℕ → Option Offer
-gain_means block grade = cond (nat_lt grade 16) (Some (gain_offer block (levels grade))) None
+gain_means block grade = if nat_lt grade 16 then Some (gain_offer block (levels grade)) else None

@@ -1,5 +1,5 @@
 -- The levels of a grade, and the bits and the distortion that so many levels stand for. Assumes nothing.
-use Rattle.std.specs.Prelude.{◌≡◌, ℕ, zero, suc, ◌+◌, ◌-◌, ◌*◌, ◌/◌, ◌^◌, ◌≤◌, cond, List, [], ◌∷◌, length, nat_le, slice_index}
+use Rattle.std.specs.Prelude.{◌≡◌, ℕ, zero, suc, ◌+◌, ◌-◌, ◌*◌, ◌/◌, ◌^◌, ◌≤◌, List, [], ◌∷◌, length, if◌then◌else◌, nat_le, slice_index}
 
 abbrev pub level_counts : List ℕ
 level_counts = 1 ∷ 2 ∷ 3 ∷ 4 ∷ 6 ∷ 8 ∷ 12 ∷ 16 ∷ 24 ∷ 32 ∷ 48 ∷ 64 ∷ 96 ∷ 128 ∷ 192 ∷ 255 ∷ []
@@ -15,7 +15,7 @@ Least n q = (n ^ 8 ≤ 2 ^ q) × ((p : ℕ) → n ^ 8 ≤ 2 ^ p → q ≤ p)
 -- the first number from q on, among the next so many, whose power of 2 is at least x
 unfoldable pub first_from : ℕ → ℕ → ℕ → ℕ
 first_from zero q x = q
-first_from (suc count) q x = cond (nat_le x (2 ^ q)) q (first_from count (suc q) x)
+first_from (suc count) q x = if nat_le x (2 ^ q) then q else first_from count (suc q) x
 
 -- the eighths of n levels; that it is the smallest such number is part of the table's rule
 abbrev pub eighths : ℕ → ℕ

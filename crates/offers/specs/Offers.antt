@@ -1,11 +1,11 @@
 -- Offers, and what layers make of them. Assumes nothing.
-use Rattle.std.specs.Prelude.{◌≡◌, ℕ, ◌+◌, ◌*◌, ◌≤◌, cond, ◌&&◌, List, map, Some, None, Option, nat_le, nat_lt, slice_index_or}
+use Rattle.std.specs.Prelude.{◌≡◌, ℕ, ◌+◌, ◌*◌, ◌≤◌, ◌&&◌, List, map, Some, None, Option, if◌then◌else◌, nat_le, nat_lt, slice_index_or}
 use Rattle.std.specs.List.{range_with_len}
 use Rattle.offers.specs.declared.offer.Offer.{Offer}
 
 -- the offer of a rate and a distortion, none where either is out of range
 abbrev pub offer_of : ℕ → ℕ → Option Offer
-offer_of rate distortion = cond (nat_le rate 65535 && nat_le distortion 16777215) (Some (record { rate = rate; distortion = distortion })) None
+offer_of rate distortion = if nat_le rate 65535 && nat_le distortion 16777215 then Some (record { rate = rate; distortion = distortion }) else None
 
 -- the numbers of an offer are in range
 abbrev pub InRange : Offer → Type 0
@@ -27,4 +27,4 @@ extended bits (Some offer) = offer_of (offer.rate + bits) offer.distortion
 
 -- sixteen offers by grade: what a source means below the number of grades, and none from there on
 abbrev pub offers_below : (ℕ → Option Offer) → ℕ → List (Option Offer)
-offers_below means grades = map (λ grade. cond (nat_lt grade grades) (means grade) None) (range_with_len 0 16)
+offers_below means grades = map (λ grade. if nat_lt grade grades then means grade else None) (range_with_len 0 16)

@@ -1,5 +1,5 @@
 // How many levels each grade stands for, and the bits and the distortion of so many levels.
-ghost use Rattle.std.specs.Prelude.{◌≡◌, ◌<◌, ◌≤◌};
+ghost use Rattle.std.specs.Prelude.{◌≡◌, ◌<◌, ◌≤◌, MatchOption};
 ghost use Rattle.offers.specs.Levels.{levels, eighths, profile, rate_of, EighthsTable};
 
 // The levels of grades 0 to 15.
@@ -27,39 +27,44 @@ pub fn eighths_table() -> &'static [u8; 255]
     &EIGHTHS
 }
 
-pub(crate) fn levels_of(grade: u8) -> u8
-    requires { grade < 16 }
-    ensures is { result ≡ levels grade }
-    ensures some { 1 ≤ result }
-{
-    LEVELS[grade as usize]
+// A number of levels.
+#[derive(Clone, Copy)]
+pub(crate) struct Levels {
+    count: u8,
+    ghost some: { 1 ≤ count },
 }
 
-// The smallest number whose power of 2 is at least the eighth power of the levels.
-pub(crate) fn eighths_of(levels: u8) -> u8
-    requires { 1 ≤ levels }
-    ensures is { result ≡ eighths levels }
-    ensures few { result ≤ 64 }
-{
-    let table = eighths_table();
-    table[(levels - 1) as usize]
-}
+impl Levels {
+    // The levels of a grade, none from 16 on.
+    pub(crate) fn of(grade: u8) -> Option<Levels>
+        ensures { MatchOption result (16 ≤ grade) (λ found. (grade < 16) × (found.count ≡ levels grade)) }
+    {
+        let count = *LEVELS.get(grade as usize)?;
+        Some(Levels { count })
+    }
 
-// 65,536 divided by the square of the levels.
-pub(crate) fn profile_of(levels: u8) -> u32
-    requires { 1 ≤ levels }
-    ensures is { result ≡ profile levels }
-    ensures small { result ≤ 65536 }
-{
-    let levels = levels as u32;
-    65536 / (levels * levels)
-}
+    // The smallest number whose power of 2 is at least the eighth power of the levels.
+    fn eighths(self) -> u8
+        ensures { result ≡ eighths self.count }
+    {
+        eighths_table()[(self.count - 1) as usize]
+    }
 
-// The bits of so many samples at so many levels, rounded up once.
-pub(crate) fn rate_of(samples: u32, levels: u8) -> u16
-    requires { (1 ≤ levels) × (samples ≤ 256) }
-    ensures { result ≡ rate_of samples levels }
-{
-    let eighths = eighths_of(levels) as u32;
-    ((samples * eighths + 7) / 8) as u16
+    // 65,536 divided by the square of the levels.
+    pub(crate) fn profile(self) -> u32
+        ensures is { result ≡ profile self.count }
+        ensures small { result ≤ 65536 }
+    {
+        let count = self.count as u32;
+        65536 / (count * count)
+    }
+
+    // The bits of so many samples at these levels, rounded up once.
+    pub(crate) fn rate(self, samples: u32) -> u16
+        requires { samples ≤ 256 }
+        ensures { result ≡ rate_of samples self.count }
+    {
+        let eighths = self.eighths() as u32;
+        (samples * eighths).div_ceil(8) as u16
+    }
 }

@@ -25,11 +25,12 @@ pub trait Source {
 pub fn offers_below<S: Source>(source: &S, grades: u8) -> Block
     ensures { result ≡ offers_below (S.Source.means source.now) grades }
 {
-    let mut offers = [None; 16];
-    for grade in 0..16u8 {
+    std::array::from_fn(|grade| {
+        let grade = grade as u8;
         if grade < grades {
-            offers[grade as usize] = source.offer(grade);
+            source.offer(grade)
+        } else {
+            None
         }
-    }
-    offers
+    })
 }

@@ -8,7 +8,7 @@ ghost use Rattle.std.proofs.Common.{rules};
 
 use super::GainBlock;
 use crate::fault::BlockFault;
-use crate::levels::{levels_of, profile_of, rate_of};
+use crate::levels::Levels;
 use crate::offer::Offer;
 use crate::ranges::{checked_gain, checked_samples};
 use crate::source::Source;
@@ -44,12 +44,9 @@ impl Source for GainBlock {
     ghost in_range = { gain_ranged };
 
     fn offer(&self, grade: u8) -> Option<Offer> {
-        if grade >= 16 {
-            return None;
-        }
-        let levels = levels_of(grade);
-        let rate = rate_of(self.samples, levels) as u32;
-        let distortion = self.gain * profile_of(levels);
+        let levels = Levels::of(grade)?;
+        let rate = levels.rate(self.samples) as u32;
+        let distortion = self.gain * levels.profile();
         Offer::new(rate, distortion as u64)
     }
 }

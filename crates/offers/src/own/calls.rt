@@ -4,7 +4,6 @@ ghost use Rattle.faults.specs.Refusals.{first, refusal};
 ghost use Rattle.offers.specs.Faults.{block_number, set_row, grade_row};
 ghost use Rattle.offers.specs.Offers.{offer_of};
 ghost use Rattle.offers.specs.Own.{own_means, OnlyAt};
-ghost use Rattle.offers.specs.InRange.{below_ranged};
 ghost use Rattle.std.proofs.Common.{rules};
 
 use super::OwnBlock;
@@ -49,13 +48,9 @@ impl Source for OwnBlock {
 
     ghost none_past = { Prim.search rules };
 
-    ghost in_range = { λ source. below_ranged source.offers source.ranged };
+    ghost in_range = { Prim.search rules };
 
     fn offer(&self, grade: u8) -> Option<Offer> {
-        if grade < 16 {
-            self.offers[grade as usize]
-        } else {
-            None
-        }
+        *self.offers.get(grade as usize)?
     }
 }

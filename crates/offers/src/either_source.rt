@@ -1,20 +1,15 @@
 // A source that is one of two, so that blocks of both stand in one list.
-ghost use Rattle.offers.specs.declared.either.Either.TheVariants.{Left, Right};
-ghost use Rattle.std.proofs.Common.{rules};
+ghost use Rattle.either.specs.Either.{either};
+ghost use Rattle.either.specs.declared.Either.TheVariants.{Left, Right};
 
 use crate::offer::Offer;
 use crate::source::Source;
-
-#[derive(Clone, Copy, Drop)]
-pub enum Either<A, B> {
-    Left(A),
-    Right(B),
-}
+use either::Either;
 
 impl<A: Source, B: Source> Source for Either<A, B> {
-    ghost means = { λ s grade. elim s [ Left a ↦ A.Source.means a grade | Right b ↦ B.Source.means b grade ] };
+    ghost means = { either A.Source.means B.Source.means };
 
-    ghost none_past = { Prim.search rules };
+    ghost none_past = { elim [ Left a ↦ A.Source.none_past a | Right b ↦ B.Source.none_past b ] };
 
     ghost in_range = { elim [ Left a ↦ A.Source.in_range a | Right b ↦ B.Source.in_range b ] };
 
