@@ -5,18 +5,21 @@ mod photographs;
 mod show;
 
 use crate::photographs::{gain_layers, gain_terms, worked_photograph, worked_terms};
-use crate::show::{show_blocks, show_choices, show_layers, show_terms};
+use crate::show::{Photograph, show_layers};
 
 fn worked(rt: &HostRuntime) -> anyhow::Result<()> {
     println!(rt; "A photograph of two own blocks")?;
     let terms = worked_terms()?;
     let blocks = worked_photograph(&terms)?;
-    show_terms(rt, &terms)?;
-    show_blocks(rt, &blocks)?;
-    show_choices(rt, &terms, &blocks, &[0, 0])?;
-    show_choices(rt, &terms, &blocks, &[0, 1])?;
-    show_choices(rt, &terms, &blocks, &[1, 0])?;
-    show_choices(rt, &terms, &blocks, &[1, 1])?;
+    let photograph = Photograph {
+        terms: &terms,
+        blocks: &blocks,
+    };
+    photograph.show_terms(rt)?;
+    photograph.show_blocks(rt)?;
+    for grades in [[0, 0], [0, 1], [1, 0], [1, 1]] {
+        photograph.show_choices(rt, &grades)?;
+    }
     Ok(())
 }
 
@@ -24,18 +27,17 @@ fn gain(rt: &HostRuntime) -> anyhow::Result<()> {
     println!(rt; "A photograph of three gain blocks under layers")?;
     let terms = gain_terms()?;
     let layers = gain_layers()?;
-    let blocks = [
-        layers[0].block(&terms),
-        layers[1].block(&terms),
-        layers[2].block(&terms),
-    ];
-    show_terms(rt, &terms)?;
+    let blocks = layers.map(|layers| layers.block(&terms));
+    let photograph = Photograph {
+        terms: &terms,
+        blocks: &blocks,
+    };
+    photograph.show_terms(rt)?;
     show_layers(rt, &layers)?;
-    show_blocks(rt, &blocks)?;
-    show_choices(rt, &terms, &blocks, &[1, 1, 1])?;
-    show_choices(rt, &terms, &blocks, &[3, 0, 2])?;
-    show_choices(rt, &terms, &blocks, &[2, 3, 3])?;
-    show_choices(rt, &terms, &blocks, &[0, 0, 0])?;
+    photograph.show_blocks(rt)?;
+    for grades in [[1, 1, 1], [3, 0, 2], [2, 3, 3], [0, 0, 0]] {
+        photograph.show_choices(rt, &grades)?;
+    }
     Ok(())
 }
 

@@ -1,5 +1,5 @@
 -- Choices of one grade for each block, with their bits and their cost. Assumes nothing.
-use Rattle.std.specs.Prelude.{◌≡◌, ℕ, ◌+◌, ◌<◌, ◌≤◌, ◌↔◌, List, [], ◌∷◌, reverse, length, Some, None, Option, slice_index_or}
+use Rattle.std.specs.Prelude.{◌≡◌, ℕ, ◌+◌, ◌<◌, ◌≤◌, ◌↔◌, List, [], ◌∷◌, reverse, length, Some, None, Option, if◌then◌else◌, nat_lt, slice_index_or}
 use Rattle.offers.specs.declared.offer.Offer.{Offer}
 use Rattle.costs.specs.Model.{Model}
 use Rattle.terms.specs.Rules.{Rules, charge_into}
@@ -10,6 +10,10 @@ Block = List (Option Offer)
 
 abbrev pub offer_at : Block → ℕ → Option Offer
 offer_at block grade = slice_index_or block grade None
+
+-- what a block offers at a grade below the number of grades
+abbrev pub offered : Rules → Block → ℕ → Option Offer
+offered rules block grade = if nat_lt grade rules.grades then offer_at block grade else None
 
 -- the grade of the newest block, where there is one
 abbrev pub newest : List ℕ → Option ℕ

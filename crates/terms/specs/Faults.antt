@@ -1,8 +1,8 @@
 -- What is refused of terms: the number of each case, and each call's row of cases. Assumes nothing.
 use Rattle.std.specs.Prelude.{ℕ, ◌||◌, [], ◌∷◌, ◌++◌, ◌==◌, nat_le, nat_lt}
 use Rattle.faults.specs.Refusals.{Row}
-use Rattle.faults.specs.declared.Layer.{Layer}
-use Rattle.faults.specs.declared.Layer.TheVariants.{Terms}
+use Rattle.faults.specs.declared.layer.Layer.{Layer}
+use Rattle.faults.specs.declared.layer.Layer.TheVariants.{Terms}
 use Rattle.terms.specs.declared.fault.TermsFault.{TermsFault}
 use Rattle.terms.specs.declared.fault.TermsFault.TheVariants.{GradesRange, CeilingRange, ChargeRange, PairRange}
 

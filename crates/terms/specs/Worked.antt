@@ -1,5 +1,5 @@
 -- Worked values, as one list. Assumes nothing.
-use Rattle.std.specs.Prelude.{◌≡◌, ℕ, ◌≤◌, cond, List, [], ◌∷◌, reverse, Some, None, Option, ◌==◌}
+use Rattle.std.specs.Prelude.{◌≡◌, ℕ, ◌≤◌, if◌then◌else◌, List, [], ◌∷◌, reverse, Some, None, Option, ◌==◌}
 use Rattle.std.proofs.Common.{lit≤}
 use Rattle.std.specs.Option.{option_map}
 use Rattle.std.specs.List.{AllByRecursion}
@@ -28,7 +28,7 @@ photograph = (offer_of 1 5 ∷ offer_of 3 2 ∷ []) ∷ (offer_of 1 9 ∷ offer_
 
 -- two grades, and 2 bits for each change
 abbrev pub two_grades : Rules
-two_grades = record { grades = 2; charge = λ from to. cond (from == to) 0 2 }
+two_grades = record { grades = 2; charge = λ from to. if from == to then 0 else 2 }
 
 pub data Worked : Type 0 where
   -- what a definition gives, and what it should

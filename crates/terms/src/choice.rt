@@ -1,7 +1,7 @@
 // Counting the bits and the cost of a choice of grades.
-ghost use Rattle.std.specs.Prelude.{◌≡◌, ◌<◌, if◌then◌else◌, None, nat_lt};
+ghost use Rattle.std.specs.Prelude.{◌≡◌};
 ghost use Rattle.terms.specs.Rules.{rules_of};
-ghost use Rattle.terms.specs.Choice.{offer_at, Counted, CountsOnce};
+ghost use Rattle.terms.specs.Choice.{offered, Counted, CountsOnce};
 
 use crate::terms::Terms;
 use costs::Kind;
@@ -9,16 +9,13 @@ use offers::{Block, Offer};
 
 // What a block offers at a grade below the number of grades.
 fn offered(terms: &Terms, block: &Block, grade: u8) -> Option<Offer>
-    ensures { result ≡ (if nat_lt grade terms.now.grades then offer_at block.now grade else None) }
+    ensures { result ≡ offered (rules_of terms.now) block.now grade }
 {
-    if grade < terms.grades() {
-        block[grade as usize]
-    } else {
-        None
-    }
+    *block[..terms.grades() as usize].get(grade as usize)?
 }
 
 // The bits and the cost of the grades as a choice for the blocks; none where they are no choice, or for more than 64 blocks.
+#[tactic(auto, using(crate::proofs::Counts::counts_once))]
 pub fn count_choice<K: Kind>(terms: &Terms, blocks: &[Block], grades: &[u8]) -> Option<(u32, K)>
     ensures counted { Counted K.Kind.model (rules_of terms.now) blocks.now grades.now result }
     ensures once { CountsOnce K.Kind.model }
@@ -29,9 +26,8 @@ pub fn count_choice<K: Kind>(terms: &Terms, blocks: &[Block], grades: &[u8]) -> 
     let mut before = None;
     let mut bits = 0;
     let mut cost = K::start();
-    for n in 0..blocks.len() {
-        let grade = grades[n];
-        let offer = offered(terms, &blocks[n], grade)?;
+    for (block, &grade) in blocks.iter().zip(grades) {
+        let offer = offered(terms, block, grade)?;
         bits += terms.charge_into(before, grade) + offer.rate() as u32;
         cost = cost.join(offer.distortion());
         before = Some(grade);

@@ -1,47 +1,40 @@
 // What is refused of terms, and the number and the layer of each case.
-ghost use Rattle.std.specs.Prelude.{◌≡◌, ◌∷◌, ◌++◌, Some, decimal};
-ghost use Rattle.faults.specs.Layers.{layer_name};
+ghost use Rattle.std.specs.Prelude.{Some};
+ghost use Rattle.faults.specs.Layers.{fault_text};
 ghost use Rattle.terms.specs.Faults.{terms_number, terms_layer};
 
-use faults::Layer;
+use faults::{Fault, Layer};
 use std::error::Error;
 use std::fmt;
 
 #[derive(Clone, Copy, PartialEq, Eq, Debug)]
 pub enum TermsFault {
-    GradesRange,
-    CeilingRange,
-    ChargeRange,
-    PairRange,
+    GradesRange = 10,
+    CeilingRange = 11,
+    ChargeRange = 12,
+    PairRange = 13,
 }
 
-impl TermsFault {
-    pub fn number(self) -> u32
-        ensures { result ≡ terms_number self }
-    {
-        match self {
-            TermsFault::GradesRange => 10,
-            TermsFault::CeilingRange => 11,
-            TermsFault::ChargeRange => 12,
-            TermsFault::PairRange => 13,
-        }
+impl Fault for TermsFault {
+    ghost layers = { terms_layer };
+
+    ghost numbers = { terms_number };
+
+    fn layer(self) -> Layer {
+        Layer::Terms
     }
 
-    pub fn layer(self) -> Layer
-        ensures { result ≡ terms_layer self }
-    {
-        Layer::Terms
+    fn number(self) -> u32 {
+        self as u32
     }
 }
 
 // The layer and the number, as `terms 10`.
 impl fmt::Display for TermsFault {
-    ghost output = { λ fault. Some (layer_name (terms_layer fault) ++ 32 ∷ decimal (terms_number fault)) };
+    ghost output = { λ fault. Some (fault_text (terms_layer fault) (terms_number fault)) };
 
     fn fmt<W: fmt::Write>(&self, f: &mut fmt::Formatter<W>) -> fmt::Result {
-        let layer = self.layer().name();
-        let number = self.number();
-        write!(f, "{layer} {number}")
+        write!(f, "{} {}", self.layer(), self.number())
     }
 }
 

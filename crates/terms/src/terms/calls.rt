@@ -24,11 +24,9 @@ impl Terms {
         ensures refused { refusal terms_number result ≡ first (reset_row grades ceiling) }
         ensures left { MatchResult result (λ _. Fresh grades ceiling self.new) (λ _. self.new ≡ self.old) }
     {
-        let grades = checked_grades(grades)?;
-        let ceiling = checked_ceiling(ceiling)?;
         *self = Terms {
-            grades,
-            ceiling,
+            grades: checked_grades(grades)?,
+            ceiling: checked_ceiling(ceiling)?,
             charges: [[0; 16]; 16],
         };
         Ok(())
@@ -41,16 +39,10 @@ impl Terms {
     {
         let charge = checked_charge(charge)?;
         let mut charges = [[charge; 16]; 16];
-        for grade in 0..16usize {
-            charges[grade][grade] = 0;
+        for (grade, row) in charges.iter_mut().enumerate() {
+            row[grade] = 0;
         }
-        let grades = self.grades;
-        let ceiling = self.ceiling;
-        *self = Terms {
-            grades,
-            ceiling,
-            charges,
-        };
+        self.charges = charges;
         Ok(())
     }
 
@@ -88,14 +80,10 @@ impl Terms {
         ensures low { result ≤ 255 }
     {
         match before {
-            Some(before) => {
-                if before < 16 && grade < 16 {
-                    self.charges[before as usize][grade as usize] as u32
-                } else {
-                    0
-                }
+            Some(before) if before < 16 && grade < 16 => {
+                self.charges[before as usize][grade as usize] as u32
             }
-            None => 0,
+            _ => 0,
         }
     }
 }

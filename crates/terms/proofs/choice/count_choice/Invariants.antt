@@ -1,10 +1,14 @@
-use Rattle.std.proofs.Common.{◌≡◌, ◌*◌, ◌≤◌, reverse, take}
+use Rattle.std.proofs.Common.{◌*◌, ◌≤◌, length}
+use Rattle.std.specs.Iterator.Adapters.{zip_first, zip_second}
+use Rattle.std.specs.Slice.Iter.{iter_rest}
 use Rattle.terms.specs.Rules.{rules_of}
-use Rattle.terms.specs.Choice.{newest, Choice}
+use Rattle.terms.proofs.Counts.{Counting}
 use Rattle.terms.proofs.choice.count_choice.Given as goal
 
-abbrev pub invariant-loop-n : goal.invariant-loop-n
-invariant-loop-n g l =
-    (l.bits ≤ l.n * 65790)
-    × (l.before ≡ newest (reverse (take l.n l.grades)))
-    × Choice g.K.Kind.model (rules_of l.terms) (reverse (take l.n l.blocks)) (reverse (take l.n l.grades)) l.bits l.cost
+-- what is counted so far is of the blocks so far
+abbrev pub invariant-loop-block : goal.invariant-loop-block
+invariant-loop-block g l =
+    record {
+      low : l.bits ≤ length l.yielded * 65790;
+      counting : Counting g.K.Kind.model (rules_of l.terms) l.blocks l.grades (iter_rest (zip_first l.block-iterator)) (iter_rest (zip_second l.block-iterator)) l.before l.bits l.cost;
+    }

@@ -1,6 +1,6 @@
-use Rattle.std.proofs.Common.{refl, rules}
-use Rattle.terms.proofs.Charges.{fresh}
+use Rattle.std.proofs.Common.{rules}
+use Rattle.terms.proofs.Charges.{free}
 use Rattle.terms.proofs.terms.Terms.reset.Goals as goal
 
-pub returns : goal.returns
-returns c = record { refused = search rules; left = fresh _ c.args.grades c.args.ceiling (search rules) (search rules) refl }
+pub returns-clause-left : goal.returns-clause-left
+returns-clause-left c = record { grades_is = search rules; ceiling_is = search rules; free = free 16 }

@@ -1,9 +1,7 @@
-use Rattle.std.proofs.Common.{◌≡◌, ℕ, ◌<◌, cond, ◌&&◌, eqb, ltb, [], length, get_or}
-use Rattle.terms.proofs.Charges.{entry}
+use Rattle.std.proofs.Common.{◌≡◌, ℕ, ◌<◌, cond, ltb, [], get_or, set, replicate}
 use Rattle.terms.proofs.terms.Terms.set_flat.Given as goal
 
+-- the rows before this one are cleared where a grade stays, and the others are not
 abbrev pub invariant-loop-grade : goal.invariant-loop-grade
 invariant-loop-grade l =
-    (length l.charges ≡ 16)
-    × ((a : ℕ) → a < 16 → length (get_or l.charges a []) ≡ 16)
-    × ((a b : ℕ) → a < 16 → b < 16 → entry l.charges a b ≡ cond (eqb a b && ltb a l.grade) 0 l.charge)
+    (a : ℕ) → a < 16 → get_or l.row-items a [] ≡ cond (ltb a l.grade) (set (replicate 16 l.charge) a 0) (replicate 16 l.charge)
