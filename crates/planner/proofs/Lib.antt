@@ -1,9 +1,1 @@
-pub mod Rows
-pub mod Columns
-pub mod Sightings
-pub mod Founds
-pub mod Backs
-pub mod Walks
-pub mod Cases
-pub mod Turns
-pub mod Promises
+mod Rows

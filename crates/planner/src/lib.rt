@@ -4,16 +4,9 @@
 mod call;
 mod column;
 mod fault;
-mod planner;
 mod row;
-mod run;
-mod search;
 mod sizes;
-mod steps;
-mod tables;
-mod walk;
+mod stage;
 
 pub use crate::call::{Call, Question};
 pub use crate::fault::PlannerFault;
-pub use crate::planner::Planner;
-pub use crate::run::{Answers, replay};
