@@ -3,8 +3,10 @@
 
 mod call;
 mod column;
+mod end;
 mod fault;
 mod row;
+mod search;
 mod sizes;
 mod stage;
 
