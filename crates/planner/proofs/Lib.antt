@@ -1,2 +1,6 @@
 mod Rows
 mod Sightings
+mod Founds
+mod Backs
+mod Stacks
+mod Cases

@@ -5,10 +5,13 @@ mod call;
 mod column;
 mod end;
 mod fault;
+mod planner;
 mod row;
 mod search;
 mod sizes;
 mod stage;
+mod tables;
 
 pub use crate::call::{Call, Question};
 pub use crate::fault::PlannerFault;
+pub use crate::planner::Planner;

@@ -20,7 +20,7 @@ fn better<K: Kind>(best: Option<End<K>>, new: End<K>) -> Option<End<K>>
 
 impl<'a, K: Kind> Stage<'a, K> {
     // The fewest bits at which a place is reached and within the bound.
-    pub(crate) fn first_within(&self, bound: K) -> Option<usize>
+    pub(crate) fn first_within(&self, bound: K) -> Option<u32>
         ensures { FirstWithin K.Kind.model self.now.terms.now self.now.places.now bound result }
     {
         let mut fewest = None;
@@ -28,7 +28,7 @@ impl<'a, K: Kind> Stage<'a, K> {
             for grade in 0..self.terms.grades() {
                 let place = self.at(grade, bits);
                 if place.reached && place.cost.no_dearer(bound) {
-                    fewest = Some(bits);
+                    fewest = Some(bits as u32);
                     break 'seek;
                 }
             }
