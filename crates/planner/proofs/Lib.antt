@@ -4,3 +4,5 @@ mod Founds
 mod Backs
 mod Stacks
 mod Cases
+mod Turns
+mod Promises
