@@ -1,9 +1,8 @@
-pub mod Rows
-pub mod Columns
-pub mod Sightings
-pub mod Founds
-pub mod Backs
-pub mod Walks
-pub mod Cases
-pub mod Turns
-pub mod Promises
+mod Rows
+mod Sightings
+mod Founds
+mod Backs
+mod Stacks
+mod Cases
+mod Turns
+mod Promises

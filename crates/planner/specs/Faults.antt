@@ -1,8 +1,8 @@
 -- What the planner refuses: the number of each case, and each call's row of cases. Assumes nothing.
 use Rattle.std.specs.Prelude.{ℕ, ◌+◌, ◌*◌, [], ◌∷◌, ◌==◌, nat_le, nat_lt}
 use Rattle.faults.specs.Refusals.{Row}
-use Rattle.faults.specs.declared.Layer.{Layer}
-use Rattle.faults.specs.declared.Layer.TheVariants.{Planner}
+use Rattle.faults.specs.declared.layer.Layer.{Layer}
+use Rattle.faults.specs.declared.layer.Layer.TheVariants.{Planner}
 use Rattle.terms.specs.declared.terms.Terms.{Terms}
 use Rattle.terms.specs.Choice.{Block}
 use Rattle.planner.specs.declared.fault.PlannerFault.{PlannerFault}

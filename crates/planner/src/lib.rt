@@ -3,15 +3,15 @@
 
 mod call;
 mod column;
+mod end;
 mod fault;
 mod planner;
 mod row;
 mod run;
 mod search;
 mod sizes;
-mod steps;
+mod stage;
 mod tables;
-mod walk;
 
 pub use crate::call::{Call, Question};
 pub use crate::fault::PlannerFault;

@@ -1,103 +1,59 @@
-// One row of places: a grade of a block, at each number of bits.
-ghost use Rattle.std.specs.Prelude.{◌≡◌, ℕ, ◌+◌, ◌*◌, ◌<◌, ◌≤◌, List, [], ◌∷◌, length, Some, None, slice_index_or};
-ghost use Rattle.terms.specs.Rules.{rules_of, charge_into};
+// Writing one row of places: those of a grade of a new block, one for each number of bits.
+ghost use Rattle.std.specs.Prelude.{◌≡◌, ℕ, ◌+◌, ◌<◌, ◌≤◌, List, [], ◌∷◌, length, Some, slice_index_or};
 ghost use Rattle.terms.specs.Choice.{Block, offer_at};
-ghost use Rattle.trellis.specs.Places.{Best, relaxed, unreached};
-ghost use Rattle.planner.specs.Layout.{width_of, Outside, Column, PlaceRow};
+ghost use Rattle.trellis.specs.Places.{relaxed, unreached};
+ghost use Rattle.planner.specs.Layout.{width_of, Column, PlaceRow};
 
-use crate::sizes::width;
+use crate::sizes::bits_into;
+use crate::stage::Stage;
 use costs::Kind;
 use offers::Offer;
 use terms::Terms;
 use trellis::Place;
 
-// Relaxes a row by the row of one earlier grade, whose places lie `shift` bits lower.
-pub(crate) fn relax_row<K: Kind>(
-    places: &mut [Place<K>],
-    from: usize,
-    to: usize,
-    width: usize,
-    shift: usize,
-    distortion: u32,
-)
-    requires apart { from + width ≤ to }
-    requires fits { to + width ≤ length places.old }
-    requires shifts { shift ≤ width }
-    ensures before { (k : ℕ) → k < to + shift → slice_index_or places.new k (unreached K.Kind.model) ≡ slice_index_or places.old k (unreached K.Kind.model) }
-    ensures after { (k : ℕ) → to + width ≤ k → slice_index_or places.new k (unreached K.Kind.model) ≡ slice_index_or places.old k (unreached K.Kind.model) }
-    ensures row { (b : ℕ) → b + shift < width → slice_index_or places.new (to + (b + shift)) (unreached K.Kind.model) ≡ relaxed K.Kind.model distortion (slice_index_or places.old (to + (b + shift)) (unreached K.Kind.model)) (slice_index_or places.old (from + b) (unreached K.Kind.model)) }
+// Marks every place of a row unreached.
+pub(crate) fn clear_row<K: Kind>(row: &mut [Place<K>])
+    ensures { (b : ℕ) → b < length row.old → slice_index_or row.new b (unreached K.Kind.model) ≡ unreached K.Kind.model }
 {
-    for bits in shift..width {
-        let source = places[from + (bits - shift)];
-        let target = places[to + bits];
-        places[to + bits] = target.relaxed(source, distortion);
+    for place in row.iter_mut() {
+        *place = Place::unreached();
     }
 }
 
-// Marks a row unreached.
-pub(crate) fn clear_row<K: Kind>(places: &mut [Place<K>], at: usize, width: usize)
-    requires { at + width ≤ length places.old }
-    ensures outside { Outside K.Kind.model at width places.old places.new }
-    ensures clear { (b : ℕ) → b < width → slice_index_or places.new (at + b) (unreached K.Kind.model) ≡ unreached K.Kind.model }
+// Relaxes a row by the row of one earlier grade, whose places lie `step` bits lower.
+fn relax_row<K: Kind>(row: &mut [Place<K>], earlier: &[Place<K>], step: usize, distortion: u32)
+    requires { length earlier.now ≡ length row.old }
+    ensures before { (k : ℕ) → k < step → slice_index_or row.new k (unreached K.Kind.model) ≡ slice_index_or row.old k (unreached K.Kind.model) }
+    ensures row { (b : ℕ) → b + step < length row.old → slice_index_or row.new (b + step) (unreached K.Kind.model) ≡ relaxed K.Kind.model distortion (slice_index_or row.old (b + step) (unreached K.Kind.model)) (slice_index_or earlier.now b (unreached K.Kind.model)) }
 {
-    for bits in 0..width {
-        places[at + bits] = Place::unreached();
+    for bits in step..row.len() {
+        row[bits] = row[bits].relaxed(earlier[bits - step], distortion);
     }
 }
 
-// Writes the row of one new grade from the column of the block before.
-pub(crate) fn reach_row<K: Kind>(
-    terms: &Terms,
-    places: &mut [Place<K>],
-    before: usize,
-    at: usize,
-    grade: usize,
-    offer: Offer,
-)
+// Relaxes a row of unreached places by every grade of the block before.
+pub(crate) fn reach_row<K: Kind>(prior: &Stage<K>, row: &mut [Place<K>], grade: u8, offer: Offer)
+    requires grade { grade < prior.now.terms.now.grades }
+    requires long { length row.old ≡ width_of prior.now.terms.now }
+    requires clear { (b : ℕ) → b < length row.old → slice_index_or row.old b (unreached K.Kind.model) ≡ unreached K.Kind.model }
+    ensures { (block : Block) (newest : Block) (blocks : List Block) → offer_at block grade ≡ Some offer → Column K.Kind.model prior.now.terms.now (newest ∷ blocks) prior.now.places.now → PlaceRow K.Kind.model prior.now.terms.now (block ∷ newest ∷ blocks) grade row.new }
+{
+    for earlier in 0..prior.terms.grades() {
+        let step = bits_into(prior.terms, Some(earlier), grade, offer);
+        relax_row(row, prior.row(earlier), step, offer.distortion());
+    }
+}
+
+// Reaches the one place of a first block in a row of unreached places, where its bits are through the ceiling.
+pub(crate) fn first_row<K: Kind>(terms: &Terms, row: &mut [Place<K>], grade: u8, offer: Offer)
     requires grade { grade < terms.now.grades }
-    requires apart { before + terms.now.grades * width_of terms.now ≤ at }
-    requires fits { at + width_of terms.now ≤ length places.old }
-    ensures outside { Outside K.Kind.model at (width_of terms.now) places.old places.new }
-    ensures row { (block : Block) (prior : Block) (blocks : List Block) → offer_at block grade ≡ Some offer → Column K.Kind.model terms.now (prior ∷ blocks) before places.old → PlaceRow K.Kind.model terms.now (block ∷ prior ∷ blocks) grade at places.new }
+    requires long { length row.old ≡ width_of terms.now }
+    requires clear { (b : ℕ) → b < length row.old → slice_index_or row.old b (unreached K.Kind.model) ≡ unreached K.Kind.model }
+    ensures { (block : Block) → offer_at block grade ≡ Some offer → PlaceRow K.Kind.model terms.now (block ∷ []) grade row.new }
 {
-    let grades = terms.grades() as usize;
-    let width = width(terms);
-    clear_row(places, at, width);
-    for earlier in 0..grades {
-        let charge = terms.charge_into(Some(earlier as u8), grade as u8) as usize;
-        let shift = offer.rate() as usize + charge;
-        if shift < width {
-            relax_row(
-                places,
-                before + earlier * width,
-                at,
-                width,
-                shift,
-                offer.distortion(),
-            );
-        }
-    }
-}
-
-// Writes the row of one grade of a first block.
-pub(crate) fn first_row<K: Kind>(
-    terms: &Terms,
-    places: &mut [Place<K>],
-    at: usize,
-    grade: usize,
-    offer: Offer,
-)
-    requires grade { grade < terms.now.grades }
-    requires fits { at + width_of terms.now ≤ length places.old }
-    ensures outside { Outside K.Kind.model at (width_of terms.now) places.old places.new }
-    ensures row { (block : Block) → offer_at block grade ≡ Some offer → PlaceRow K.Kind.model terms.now (block ∷ []) grade at places.new }
-{
-    let width = width(terms);
-    clear_row(places, at, width);
-    let charge = terms.charge_into(None, grade as u8) as usize;
-    let bits = offer.rate() as usize + charge;
-    if bits < width {
-        places[at + bits] = Place {
+    let bits = bits_into(terms, None, grade, offer);
+    if bits < row.len() {
+        row[bits] = Place {
             reached: true,
             cost: K::start().join(offer.distortion()),
         };

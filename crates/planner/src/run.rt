@@ -23,8 +23,8 @@ fn ask<K: Kind>(planner: &Planner<K>, question: &Question<K>) {
     match question {
         Question::Plan { budget, entries } => {
             let mut grades = [0; 64];
-            let used = if *entries < 64 { *entries } else { 64 };
-            let _ = planner.plan(*budget, &mut grades[0..used]);
+            let used = (*entries).min(64);
+            let _ = planner.plan(*budget, &mut grades[..used]);
         }
         Question::Fewest(bound) => {
             let _ = planner.fewest(*bound);

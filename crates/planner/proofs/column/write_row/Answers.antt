@@ -1,55 +1,23 @@
-use Rattle.std.proofs.Common.{◌≡◌, ℕ, ◌*◌, ◌≤◌, ◌∙◌, subst, mul-le-mul_right, one-mul, arith}
-use Rattle.planner.proofs.Columns.{none_right, first_right_of, next_right}
-use Rattle.planner.specs.Layout.{width_of, size_of, Outside}
-use Rattle.planner.proofs.Rows.{row_below}
+use Rattle.std.proofs.Common.{◌≡◌, ◌<◌, [], ◌∷◌, length, MatchOption, sym, ◌∙◌, subst, arith}
+use Rattle.terms.specs.Rules.{rules_of}
+use Rattle.trellis.proofs.Bests.{best_none}
+use Rattle.trellis.proofs.Ways.{none_offered}
+use Rattle.trellis.specs.Places.{Best, Costs}
+use Rattle.planner.specs.Layout.{Column}
+use Rattle.planner.proofs.Rows.{next_row}
 use Rattle.planner.proofs.column.write_row.Goals as goal
 
-pub clear_row-requires : goal.clear_row-requires
-clear_row-requires g c = let t = c.args.terms.now in omega (arith, row_below c.args.grade t.grades (width_of t) c.requires.grade)
+pub returns-in_default : goal.returns-in_default
+returns-in_default g c block blocks offered prior b h =
+    let m = g.K.Kind.model in
+    subst (λ p. Best m (Costs m (rules_of c.args.terms.now) (block ∷ blocks) c.args.grade b) p) (sym (c.clear_row.ensures b (omega (arith, c.requires.long))))
+    (best_none m (λ v. none_offered m (rules_of c.args.terms.now) block blocks c.args.grade b v (offered ∙ c.in_default.is)))
 
-pub first_row-requires : goal.first_row-requires
-first_row-requires g c =
-    let t = c.args.terms.now in
-    record { grade = c.requires.grade; fits = omega (arith, row_below c.args.grade t.grades (width_of t) c.requires.grade) }
-
--- a block before this one has its places before `base`
-one_before : (standing size : ℕ) → (standing ≡ 0 → ⊥) → size ≤ standing * size
-one_before standing size some = let one : 1 ≤ standing = omega (arith, some) in omega (arith, mul-le-mul_right {m = 1} {n = standing} size one, one-mul size)
-
-pub overflow_sub-base : goal.overflow_sub-base
-overflow_sub-base g c = let t = c.args.terms.now in omega (arith, one_before c.args.standing (size_of t) c.if-standing-eq0.false)
-
-pub reach_row-requires : goal.reach_row-requires
-reach_row-requires g c =
-    let t = c.args.terms.now in
-    let below = row_below c.args.grade t.grades (width_of t) c.requires.grade in
-    let one = one_before c.args.standing (size_of t) c.if-standing-eq0.false in
-    record { grade = c.requires.grade; apart = omega arith; fits = omega arith }
-
-pub returns-in-None : goal.returns-in-None
-returns-in-None g c =
+pub returns-in-Some-prior : goal.returns-in-Some-prior
+returns-in-Some-prior g c block blocks offered prior =
     let m = g.K.Kind.model in
     let t = c.args.terms.now in
-    let w-is = c.width.ensures.is in
-    record {
-      outside = subst (λ x. Outside m c.args.at x c.args.places.now c.clear_row.new.places) w-is c.clear_row.ensures.outside;
-      row = λ block blocks offered _ _. none_right m t c.args.places.now _ block blocks c.args.grade c.args.at _ w-is (offered ∙ c.in-None.is) c.clear_row.ensures.clear;
-    }
-
-pub returns-then-standing-eq0 : goal.returns-then-standing-eq0
-returns-then-standing-eq0 g c =
-    let m = g.K.Kind.model in
-    let t = c.args.terms.now in
-    record {
-      outside = c.first_row.ensures.outside;
-      row = λ block blocks offered len _. first_right_of m t c.args.places.now _ block blocks c.args.grade c.args.at c.in-Some.offer (len ∙ c.if-standing-eq0.true) (offered ∙ c.in-Some.is) c.first_row.ensures.row;
-    }
-
-pub returns-else-standing-eq0 : goal.returns-else-standing-eq0
-returns-else-standing-eq0 g c =
-    let m = g.K.Kind.model in
-    let t = c.args.terms.now in
-    record {
-      outside = c.reach_row.ensures.outside;
-      row = λ block blocks offered. next_right m t c.args.places.now _ c.args.standing c.args.base c.size.result c.args.grade c.args.at c.in-Some.offer c.requires.base c.size.ensures.is c.if-standing-eq0.false c.reach_row.ensures.row block blocks (offered ∙ c.in-Some.is);
-    }
+    let stage = c.in-Some-prior.prior in
+    let same : stage.terms.now ≡ t = subst (λ o. MatchOption o (Unit {0}) (λ stage. stage.terms.now ≡ t)) c.in-Some-prior.is c.requires.same in
+    let below : (0 < length blocks) × Column m t blocks stage.places.now = subst (λ o. MatchOption o (blocks ≡ []) (λ stage. (0 < length blocks) × Column m t blocks stage.places.now)) c.in-Some-prior.is prior in
+    next_row m t stage.terms.now block blocks c.args.grade stage.places.now c.reach_row.new.row same below.0 below.1 (λ newest rest. c.reach_row.ensures block newest rest (offered ∙ c.in-Some.is))

@@ -1,10 +1,6 @@
-use Rattle.std.proofs.Common.{◌≡◌, ℕ, ◌+◌, ◌<◌, get_or}
-use Rattle.planner.specs.Layout.{Outside}
+use Rattle.std.proofs.Common.{◌≡◌, ℕ, ◌<◌, slice_index_or}
 use Rattle.trellis.specs.Places.{unreached}
 use Rattle.planner.proofs.row.clear_row.Given as goal
 
-abbrev pub invariant-loop-bits : goal.invariant-loop-bits
-invariant-loop-bits g l =
-    let m = g.K.Kind.model in
-    Outside m l.at l.width l.initial.places l.places
-    × ((b : ℕ) → b < l.bits → get_or l.places (l.at + b) (unreached m) ≡ unreached m)
+abbrev pub invariant-loop-place : goal.invariant-loop-place
+invariant-loop-place g l = (b : ℕ) → b < l.place-index → slice_index_or l.row b (unreached g.K.Kind.model) ≡ unreached g.K.Kind.model

@@ -1,41 +1,19 @@
-use Rattle.std.proofs.Common.{◌≡◌, ◌+◌, ◌<◌, true, ◌≢◌, length, None, ap, ◌∙◌, subst, ap₂, arith}
+use Rattle.std.proofs.Common.{◌≡◌, ap₂, ◌∙◌, arith, rules}
 use Rattle.std.proofs.lemmas.List.{get_or-set_same, get_or-set_other}
-use Rattle.terms.specs.Rules.{rules_of, charge_into}
 use Rattle.trellis.specs.Places.{unreached}
-use Rattle.planner.specs.Layout.{Outside, width_of}
-use Rattle.planner.proofs.Rows.{outside_set, first_right}
+use Rattle.planner.proofs.Rows.{first_right}
 use Rattle.planner.proofs.row.first_row.Goals as goal
 
-pub returns-then-bits-width : goal.returns-then-bits-width
-returns-then-bits-width g c =
+pub returns-then-bits-row : goal.returns-then-bits-row
+returns-then-bits-row g c block offered =
     let m = g.K.Kind.model in
-    let t = c.args.terms.now in
-    let offer = c.args.offer in
-    let bits = c.rate.result + c.charge_into-charge.result in
-    let cost = c.join.ensures ∙ ap₂ (λ v d. m.joined v d) c.start.ensures c.distortion.ensures in
-    let bits_is : bits ≡ charge_into (rules_of t) None c.args.grade + offer.rate = omega (arith, c.rate.ensures, c.charge_into-charge.ensures.is) in
-    let w-is = c.width-width.ensures.is in
-    let cleared : Outside m c.args.at (width_of t) c.args.places.now c.clear_row.new.places = subst (λ x. Outside m c.args.at x c.args.places.now c.clear_row.new.places) w-is c.clear_row.ensures.outside in
-    let within : c.args.at + bits < length c.clear_row.new.places = omega arith in
-    record {
-      outside = outside_set m _ _ _ _ _ _ (omega arith) (omega arith) cleared;
-      row = λ block offered.
-          first_right g.met.K.Kind.ordered t block c.args.grade offer c.requires.grade offered c.args.at c.width-width.result bits _ c.width-width.ensures.is bits_is
-          (λ b h ne. (let other : c.args.at + b ≢ c.args.at + bits = omega arith in get_or-set_other _ _ _ _ (unreached m) other ∙ c.clear_row.ensures.clear b h))
-          (λ _. get_or-set_same _ _ _ (unreached m) within ∙ ap (λ v. record { reached = true; cost = v }) cost);
-    }
+    let u = unreached m in
+    first_right g.met.K.Kind.ordered c.args.terms.now block c.args.grade c.args.offer c.requires.grade offered c.bits_into-bits.result _ c.bits_into-bits.ensures
+    (λ b h ne. get_or-set_other _ _ _ _ u ne ∙ c.requires.clear b (omega (arith, c.requires.long)))
+    (λ h. get_or-set_same _ _ _ u c.if-bits-row.true ∙ (let cost : c.join.result ≡ m.joined m.start c.args.offer.distortion = c.join.ensures ∙ ap₂ m.joined c.start.ensures c.distortion.ensures in rw cost (search rules)))
 
-pub returns-else-bits-width : goal.returns-else-bits-width
-returns-else-bits-width g c =
-    let m = g.K.Kind.model in
-    let t = c.args.terms.now in
-    let offer = c.args.offer in
-    let bits = c.rate.result + c.charge_into-charge.result in
-    let bits_is : bits ≡ charge_into (rules_of t) None c.args.grade + offer.rate = omega (arith, c.rate.ensures, c.charge_into-charge.ensures.is) in
-    record {
-      outside = subst (λ x. Outside m c.args.at x c.args.places.now c.clear_row.new.places) c.width-width.ensures.is c.clear_row.ensures.outside;
-      row = λ block offered.
-          first_right g.met.K.Kind.ordered t block c.args.grade offer c.requires.grade offered c.args.at c.width-width.result bits _ c.width-width.ensures.is bits_is
-          (λ b h ne. c.clear_row.ensures.clear b h)
-          (λ lt. absurd (omega arith));
-    }
+pub returns-else-bits-row : goal.returns-else-bits-row
+returns-else-bits-row g c block offered =
+    first_right g.met.K.Kind.ordered c.args.terms.now block c.args.grade c.args.offer c.requires.grade offered c.bits_into-bits.result _ c.bits_into-bits.ensures
+    (λ b h ne. c.requires.clear b (omega (arith, c.requires.long)))
+    (λ h. absurd (omega (arith, c.requires.long, c.if-bits-row.false)))

@@ -1,52 +1,33 @@
-use Rattle.std.proofs.Common.{◌≡◌, ◌+◌, ◌*◌, ◌<◌, ◌∷◌, get_or, refl, ap, subst, ap₂, arith}
-use Rattle.planner.specs.Layout.{Outside}
+use Rattle.std.proofs.Common.{◌≡◌, ◌*◌, ◌<◌, ◌∷◌, length, ap, ◌∙◌, subst, sym, arith, slice_index_or}
 use Rattle.terms.specs.Rules.{rules_of}
 use Rattle.trellis.proofs.Bests.{best_same}
 use Rattle.trellis.proofs.Ways.{Ways, ways_all, all_ways}
-use Rattle.trellis.specs.Places.{Best, unreached}
-use Rattle.planner.proofs.Rows.{row_below, outside_then, passed, turned, column_before}
+use Rattle.trellis.specs.Places.{Best, Costs, unreached}
+use Rattle.planner.specs.Layout.{width_of}
+use Rattle.planner.proofs.Rows.{part_at, turned}
 use Rattle.planner.proofs.row.reach_row.Goals as goal
-use Rattle.planner.proofs.row.reach_row.Goals.{then-shift-width, else-shift-width}
 
 pub relax_row-requires : goal.relax_row-requires
-relax_row-requires g c =
-    let t = c.args.terms.now in
-    let w = c.width-width.result in
-    let w-is = c.width-width.ensures.is in
-    let lt : c.loop-earlier.earlier < t.grades = omega arith in
-    record { apart = omega (arith, row_below c.loop-earlier.earlier t.grades w lt, ap (λ x. t.grades * x) w-is); fits = omega arith; shifts = omega arith }
+relax_row-requires g c = let same : length c.loop-earlier.row ≡ length c.args.row.now = omega arith in c.row.ensures.long ∙ sym (same ∙ c.requires.long)
 
 pub loop-earlier-preserved : goal.loop-earlier-preserved
-loop-earlier-preserved g c =
+loop-earlier-preserved g c block newest blocks offered column =
     let m = g.K.Kind.model in
-    let laws = g.met.K.Kind.ordered in
-    let t = c.args.terms.now in
-    let w = c.width-width.result in
-    let w-is = c.width-width.ensures.is in
-    let inv = c.loop-earlier.invariant in
-    let lt : c.loop-earlier.earlier < t.grades = omega arith in
-    let shift = c.rate.result + c.charge_into-charge.result in
-    let shift_is : shift ≡ c.args.offer.rate + (rules_of t).charge c.loop-earlier.earlier c.args.grade = ap₂ (λ x y. x + y) c.rate.ensures c.charge_into-charge.ensures.is in
-    elim c.if-shift-width.branch [
-      | then-shift-width w ↦ (
-          let o : Outside m c.args.at c.width-width.result c.loop-earlier.places w.relax_row.new.places = record { before = λ k h. w.relax_row.ensures.before k (omega arith); after = w.relax_row.ensures.after } in
-          rw w.places-is (outside_then m _ _ _ _ _ inv.0 o, λ block prior blocks offered column. turned laws t block _ c.args.grade c.args.offer c.requires.grade offered c.args.before c.args.at c.loop-earlier.earlier c.width-width.result shift w.distortion.result w-is shift_is w.distortion.ensures _ _ _ column lt c.requires.apart inv.0 w.relax_row.ensures.before w.relax_row.ensures.row (inv.1 block prior blocks offered column)))
-      | else-shift-width w ↦
-          rw w.places-is (inv.0, λ block prior blocks offered column. passed laws t block _ c.args.grade c.args.offer c.requires.grade offered c.args.before c.args.at c.loop-earlier.earlier c.width-width.result shift c.args.offer.distortion w-is shift_is refl _ w.if-shift-width.false (inv.1 block prior blocks offered column))
-    ]
+    let t = c.args.prior.now.terms.now in
+    let places = c.args.prior.now.places.now in
+    let n = c.loop-earlier.earlier in
+    let long : length c.loop-earlier.row ≡ width_of t = omega (arith, c.requires.long) in
+    let below : n < t.grades = omega arith in
+    turned g.met.K.Kind.ordered t block (newest ∷ blocks) c.args.grade c.args.offer c.requires.grade offered n c.bits_into-step.result c.distortion.result c.bits_into-step.ensures c.distortion.ensures c.loop-earlier.row c.relax_row.new.row c.row.result.now
+    (λ b h. subst (λ p. Best m (Costs m (rules_of t) (newest ∷ blocks) n b) p) (sym (ap (λ row. slice_index_or row b (unreached m)) c.row.ensures.part ∙ part_at places (n * width_of t) (width_of t) b (unreached m) h)) (column n below b h))
+    c.relax_row.ensures.before
+    (λ b h. c.relax_row.ensures.row b (omega (arith, long)))
+    (c.loop-earlier.invariant block newest blocks offered column)
 
 pub returns : goal.returns
-returns g c =
+returns g c block newest blocks offered column b h =
     let m = g.K.Kind.model in
-    let t = c.args.terms.now in
-    let w-is = c.width-width.ensures.is in
-    let cleared = c.clear_row.ensures.outside in
-    let inv = c.loop-earlier.invariant in
-    let end : c.loop-earlier.earlier ≡ t.grades = omega arith in
-    record {
-      outside = subst (λ x. Outside m c.args.at x c.args.places.now c.loop-earlier.places) w-is (outside_then m _ _ _ _ _ cleared inv.0);
-      row = λ block prior blocks offered column bits h.
-          best_same m (ways_all m (rules_of t) block prior blocks c.args.grade bits) (all_ways m (rules_of t) block prior blocks c.args.grade bits)
-          (subst (λ n. Best m (Ways m (rules_of t) block (◌∷◌ prior blocks) c.args.grade n bits) (get_or c.loop-earlier.places (c.args.at + bits) (unreached m))) end
-          (inv.1 block prior blocks offered (column_before m t _ _ _ _ _ _ c.requires.apart cleared column) bits (omega (arith, w-is))));
-    }
+    let t = c.args.prior.now.terms.now in
+    let all : c.loop-earlier.earlier ≡ t.grades = omega arith in
+    best_same m (ways_all m (rules_of t) block newest blocks c.args.grade b) (all_ways m (rules_of t) block newest blocks c.args.grade b)
+    (subst (λ n. Best m (Ways m (rules_of t) block (newest ∷ blocks) c.args.grade n b) (slice_index_or c.loop-earlier.row b (unreached m))) all (c.loop-earlier.invariant block newest blocks offered column b h))

@@ -1,10 +1,10 @@
-use Rattle.std.proofs.Common.{◌≡◌, ℕ, ◌+◌, ◌<◌, ◌≤◌, get_or}
+use Rattle.std.proofs.Common.{◌≡◌, ℕ, ◌+◌, ◌<◌, ◌≤◌, slice_index_or}
 use Rattle.trellis.specs.Places.{relaxed, unreached}
 use Rattle.planner.proofs.row.relax_row.Given as goal
 
 abbrev pub invariant-loop-bits : goal.invariant-loop-bits
 invariant-loop-bits g l =
-    let m = g.K.Kind.model in
-    ((k : ℕ) → k < l.to + l.shift → get_or l.places k (unreached m) ≡ get_or l.initial.places k (unreached m))
-    × ((k : ℕ) → l.to + l.bits ≤ k → get_or l.places k (unreached m) ≡ get_or l.initial.places k (unreached m))
-    × ((b : ℕ) → b + l.shift < l.bits → get_or l.places (l.to + (b + l.shift)) (unreached m) ≡ relaxed m l.distortion (get_or l.initial.places (l.to + (b + l.shift)) (unreached m)) (get_or l.initial.places (l.from + b) (unreached m)))
+    let u = unreached g.K.Kind.model in
+    ((k : ℕ) → k < l.step → slice_index_or l.row k u ≡ slice_index_or l.initial.row k u)
+    × ((k : ℕ) → l.bits ≤ k → slice_index_or l.row k u ≡ slice_index_or l.initial.row k u)
+    × ((b : ℕ) → b + l.step < l.bits → slice_index_or l.row (b + l.step) u ≡ relaxed g.K.Kind.model l.distortion (slice_index_or l.initial.row (b + l.step) u) (slice_index_or l.earlier b u))
