@@ -59,7 +59,7 @@ impl<'a, K: Kind> Planner<'a, K> {
             return Err(PlannerFault::TooManyBlocks);
         }
         let size = size(&self.tables.terms);
-        let base = self.tables.blocks.len() * size;
+        let base = self.standing() * size;
         if base + size > self.places.len() {
             return Err(PlannerFault::TooFewPlaces);
         }

@@ -1,11 +1,11 @@
 // A place of the trellis: one grade and one number of bits of a block.
-ghost use Rattle.std.specs.Prelude.{◌≡◌};
+ghost use Rattle.std.specs.Prelude.{◌≡◌, if◌then◌else◌, Some, None};
 ghost use Rattle.trellis.specs.Places.{unreached, relaxed};
 
 use costs::Kind;
 
 // Reached where some choice ends there, and then with the least cost of such choices.
-#[derive(Clone, Copy)]
+#[derive(Clone, Copy, PartialEq, Eq, Debug)]
 pub struct Place<K> {
     pub reached: bool,
     pub cost: K,
@@ -20,6 +20,13 @@ impl<K: Kind> Place<K> {
             reached: false,
             cost: K::start(),
         }
+    }
+
+    // The cost that it keeps, none where no choice reaches it.
+    pub fn kept(self) -> Option<K>
+        ensures { result ≡ (if self.reached then Some self.cost else None) }
+    {
+        self.reached.then_some(self.cost)
     }
 
     // One step of the trellis: this place, or the earlier place joined with the distortion where that is reached and this one is
