@@ -30,6 +30,12 @@ pub record Flat (before : Terms) (charge : ℕ) (after : Terms) : Type 0 where
   pub ceiling_is : after.ceiling ≡ before.ceiling
   pub charged : (from to : ℕ) → from < 16 → to < 16 → charge_at after from to ≡ (if from == to then 0 else charge)
 
+-- so many grades, that ceiling, and one charge for every change of grade
+pub record FlatTerms (grades ceiling charge : ℕ) (terms : Terms) : Type 0 where
+  pub grades_is : terms.grades ≡ grades
+  pub ceiling_is : terms.ceiling ≡ ceiling
+  pub charged : (from to : ℕ) → from < 16 → to < 16 → charge_at terms from to ≡ (if from == to then 0 else charge)
+
 -- the charge of one change, and every other as it was
 pub record PairSet (before : Terms) (from to charge : ℕ) (after : Terms) : Type 0 where
   pub grades_is : after.grades ≡ before.grades

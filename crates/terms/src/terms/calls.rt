@@ -1,7 +1,7 @@
-ghost use Rattle.std.specs.Prelude.{◌≡◌, ℕ, ◌≤◌, MatchResult};
+ghost use Rattle.std.specs.Prelude.{◌≡◌, ℕ, ◌≤◌, ◌++◌, MatchResult, IfOk};
 ghost use Rattle.faults.specs.Refusals.{first, refusal};
 ghost use Rattle.terms.specs.Faults.{terms_number, reset_row, charge_row, pair_row};
-ghost use Rattle.terms.specs.Rules.{rules_of, charge_into, Fresh, Flat, PairSet};
+ghost use Rattle.terms.specs.Rules.{rules_of, charge_into, Fresh, Flat, FlatTerms, PairSet};
 
 use super::Terms;
 use crate::fault::TermsFault;
@@ -17,6 +17,17 @@ impl Terms {
             ceiling: 0,
             charges: [[0; 16]; 16],
         }
+    }
+
+    // So many grades, that ceiling, and one charge for every change of grade.
+    pub fn flat(grades: u32, ceiling: u32, charge: u32) -> Result<Terms, TermsFault>
+        ensures refused { refusal terms_number result ≡ first (reset_row grades ceiling ++ charge_row charge) }
+        ensures made { IfOk result (FlatTerms grades ceiling charge) }
+    {
+        let mut terms = Terms::new();
+        terms.reset(grades, ceiling)?;
+        terms.set_flat(charge)?;
+        Ok(terms)
     }
 
     // Sets the number of grades and the ceiling, and clears every charge.
