@@ -1,6 +1,6 @@
-// Answers as plain numbers, so that a test says what it expects in numbers alone, and blocks and terms to ask.
+// Answers as plain numbers, so that a test says what it expects in numbers alone, and blocks to ask.
 use offers::{Block, BlockFault, Offer, OwnBlock, offers_below};
-use terms::{Terms, TermsFault};
+use terms::Terms;
 
 // The rate and the distortion of an offer.
 pub(crate) fn numbers(offer: Option<Offer>) -> Option<(u16, u32)> {
@@ -23,14 +23,6 @@ pub(crate) fn one_offer(grade: u8, rate: u32, distortion: u32) -> Result<OwnBloc
     let mut block = OwnBlock::new();
     block.set(grade, rate, distortion)?;
     Ok(block)
-}
-
-// Terms with one charge for every change of grade.
-pub(crate) fn flat_terms(grades: u32, ceiling: u32, charge: u32) -> Result<Terms, TermsFault> {
-    let mut terms = Terms::new();
-    terms.reset(grades, ceiling)?;
-    terms.set_flat(charge)?;
-    Ok(terms)
 }
 
 // A block of two grades, each offered at a rate and a distortion.

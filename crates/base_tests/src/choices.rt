@@ -1,15 +1,15 @@
 // Counting choices: their bits and their costs, and what is no choice.
-use crate::answers::{flat_terms, two_grades};
+use crate::answers::two_grades;
 use costs::{Total, Worst};
 use faults::refusal_number;
 use offers::{Block, GainBlock, offers_below};
 use std::array::from_fn;
 use std::test::Fail;
-use terms::{count_choice, worked_values};
+use terms::{Terms, count_choice, worked_values};
 
 #[test]
 fn the_four_choices_of_two_blocks(rt: HostRuntime) -> Result<(), Fail> {
-    let terms = flat_terms(2, 10, 2)?;
+    let terms = Terms::flat(2, 10, 2)?;
     let blocks = [two_grades((1, 9), (4, 1))?, two_grades((1, 5), (3, 2))?];
     for (grades, bits, total, worst) in [
         ([0, 0], 2, 14, 9),
@@ -32,7 +32,7 @@ fn the_four_choices_of_two_blocks(rt: HostRuntime) -> Result<(), Fail> {
 
 #[test]
 fn charges_count_by_their_direction(rt: HostRuntime) -> Result<(), Fail> {
-    let mut terms = flat_terms(2, 10, 20)?;
+    let mut terms = Terms::flat(2, 10, 20)?;
     assert_eq!(rt; refusal_number(terms.set_pair(0, 1, 100)), None);
     let blocks = [two_grades((1, 9), (4, 1))?; 3];
     for (grades, bits) in [
@@ -54,7 +54,7 @@ fn charges_count_by_their_direction(rt: HostRuntime) -> Result<(), Fail> {
 // Three grades are offered, and the terms have two.
 #[test]
 fn what_is_no_choice_counts_nothing(rt: HostRuntime) -> Result<(), Fail> {
-    let terms = flat_terms(2, 10, 0)?;
+    let terms = Terms::flat(2, 10, 0)?;
     let full = offers_below(&GainBlock::new(8, 1)?, 3);
     let none: Block = [None; 16];
     let mut second = none;
@@ -79,7 +79,7 @@ fn what_is_no_choice_counts_nothing(rt: HostRuntime) -> Result<(), Fail> {
 
 #[test]
 fn sixteen_grades_are_the_most(rt: HostRuntime) -> Result<(), Fail> {
-    let terms = flat_terms(16, 10, 0)?;
+    let terms = Terms::flat(16, 10, 0)?;
     let blocks = [offers_below(&GainBlock::new(8, 1)?, 16)];
     assert_eq!(rt;
         count_choice::<Worst>(&terms, &blocks, &[15]),
@@ -97,7 +97,7 @@ fn alternating() -> [u8; 64] {
 
 #[test]
 fn sixty_four_blocks_count_and_sixty_five_do_not(rt: HostRuntime) -> Result<(), Fail> {
-    let terms = flat_terms(2, 10, 255)?;
+    let terms = Terms::flat(2, 10, 255)?;
     let block = two_grades((65535, 16777215), (65535, 16777215))?;
     // 64 rates and 63 charges
     let most = Some((4210305, Total(1073741760)));

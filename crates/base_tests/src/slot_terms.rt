@@ -1,5 +1,5 @@
 // Terms: their ranges, in which order calls refuse, what each call changes, and what a refused one leaves.
-use crate::answers::{charges, flat_terms};
+use crate::answers::charges;
 use faults::refusal_number;
 use std::test::Fail;
 use terms::Terms;
@@ -39,7 +39,7 @@ fn grades_run_from_1_to_16_and_ceilings_end_at_4095(rt: HostRuntime) {
 
 #[test]
 fn flat_charges_end_at_255_and_staying_is_free(rt: HostRuntime) -> Result<(), Fail> {
-    let mut terms = flat_terms(3, 7, 0)?;
+    let mut terms = Terms::flat(3, 7, 0)?;
     for (charge, refused, left) in [
         (1, None, 1),
         (255, None, 255),
@@ -86,7 +86,7 @@ fn pairs_are_of_two_grades_below_the_number(rt: HostRuntime) -> Result<(), Fail>
         (4, 1, 4, 256, Some(13), 9, 9),
         (4, 1, 3, 256, Some(12), 9, 9),
     ] {
-        let mut terms = flat_terms(grades, 7, 9)?;
+        let mut terms = Terms::flat(grades, 7, 9)?;
         assert_eq!(rt; refusal_number(terms.set_pair(from, to, charge)), refused);
         assert_eq!(rt; terms.charge_into(Some(from), to), there);
         assert_eq!(rt; terms.charge_into(Some(to), from), back);
@@ -96,7 +96,7 @@ fn pairs_are_of_two_grades_below_the_number(rt: HostRuntime) -> Result<(), Fail>
 
 #[test]
 fn a_refused_call_leaves_the_terms(rt: HostRuntime) -> Result<(), Fail> {
-    let mut terms = flat_terms(5, 77, 8)?;
+    let mut terms = Terms::flat(5, 77, 8)?;
     assert_eq!(rt; refusal_number(terms.set_pair(1, 2, 3)), None);
     let before = charges(&terms);
     assert_eq!(rt; (before[1][2], before[2][1]), (3, 8));
@@ -122,7 +122,7 @@ fn a_refused_call_leaves_the_terms(rt: HostRuntime) -> Result<(), Fail> {
 
 #[test]
 fn reset_clears_every_charge_and_flat_overwrites_pairs(rt: HostRuntime) -> Result<(), Fail> {
-    let mut terms = flat_terms(5, 77, 9)?;
+    let mut terms = Terms::flat(5, 77, 9)?;
     assert_eq!(rt; refusal_number(terms.set_pair(1, 2, 3)), None);
     assert_eq!(rt; refusal_number(terms.set_flat(8)), None);
     assert_eq!(rt;
@@ -136,7 +136,7 @@ fn reset_clears_every_charge_and_flat_overwrites_pairs(rt: HostRuntime) -> Resul
 
 #[test]
 fn the_first_block_and_grades_over_15_pay_nothing(rt: HostRuntime) -> Result<(), Fail> {
-    let terms = flat_terms(16, 7, 8)?;
+    let terms = Terms::flat(16, 7, 8)?;
     for (before, grade, charge) in [
         (None, 3, 0),
         (None, 16, 0),

@@ -11,10 +11,7 @@ use terms::{Terms, TermsFault};
 pub fn worked_terms() -> Result<Terms, TermsFault>
     ensures { IfOk result (λ terms. (terms.grades ≡ 2) × (terms.ceiling ≡ 10) × ((from to : ℕ) → from < 16 → to < 16 → charge_at terms from to ≡ (if nat_eq from to then 0 else 2))) }
 {
-    let mut terms = Terms::new();
-    terms.reset(2, 10)?;
-    terms.set_flat(2)?;
-    Ok(terms)
+    Terms::flat(2, 10, 2)
 }
 
 // An own block with two grades.
@@ -40,9 +37,7 @@ pub fn worked_photograph(terms: &Terms) -> Result<[Block; 2], BlockFault>
 pub fn gain_terms() -> Result<Terms, TermsFault>
     ensures { IfOk result (λ terms. (terms.grades ≡ 4) × (terms.ceiling ≡ 400)) }
 {
-    let mut terms = Terms::new();
-    terms.reset(4, 400)?;
-    terms.set_flat(6)?;
+    let mut terms = Terms::flat(4, 400, 6)?;
     terms.set_pair(3, 0, 9)?;
     Ok(terms)
 }

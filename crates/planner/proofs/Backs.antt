@@ -18,7 +18,7 @@ use Rattle.offers.specs.declared.offer.Offer.{Offer}
 use Rattle.trellis.specs.declared.place.Place.{Place}
 use Rattle.terms.specs.declared.terms.Terms.{Terms}
 use Rattle.std.proofs.lemmas.Bool.{cases_lt}
-use Rattle.terms.proofs.Counts.{newest_first}
+use Rattle.planner.proofs.Stacks.{newest_first}
 use Rattle.planner.proofs.Founds.{stands, placed}
 
 -- a block that does not offer the grade keeps nothing there

@@ -5,7 +5,7 @@ use mathlib.Core.HLevel.{⊥_prop}
 use Rattle.std.specs.Bool.{then_some}
 use borrow.Author.Tests.{clash}
 use Rattle.std.proofs.lemmas.List.{take_all}
-use Rattle.terms.proofs.Counts.{newest_first}
+use Rattle.planner.proofs.Stacks.{newest_first}
 use Rattle.std.proofs.lemmas.Bool.{cases_lt, cases_Bool}
 use Rattle.costs.specs.Model.{Model, Ordered, NoDearer}
 use Rattle.planner.specs.Answers.{Fewest, NoneWithin}

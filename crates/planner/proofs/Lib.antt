@@ -1,8 +1,8 @@
 mod Rows
+mod Stacks
 mod Sightings
 mod Founds
 mod Backs
-mod Stacks
 mod Cases
 mod Turns
 mod Promises

@@ -1,16 +1,19 @@
 -- The stack of standing blocks. Assumes nothing.
 use Rattle.std.proofs.Common.{◌≡◌, ℕ, zero, suc, ◌+◌, ◌-◌, ◌*◌, ◌<◌, ◌≤◌, List, [], ◌∷◌, ◌++◌, reverse, length, take, drop, refl, sym, ap, ◌∙◌, subst, ⊎_elim, add-one, suc-mul, arith, slice_index, slice_index_or}
 use Rattle.std.proofs.lemmas.Bool.{cases_lt}
-use Rattle.std.proofs.lemmas.List.{get_or-drop, take-append-le, take_all, length-append, length-reverse, length-take-le}
+use Rattle.std.proofs.lemmas.List.{take_more, get_or-drop, take-append-le, take_all, length-append, length-reverse, length-take-le}
 use mathlib.Core.List.{reverse-append}
 use Rattle.costs.specs.Model.{Model}
 use Rattle.terms.specs.declared.terms.Terms.{Terms}
 use Rattle.terms.specs.Choice.{Block}
-use Rattle.terms.proofs.Counts.{newest_first}
 use Rattle.trellis.specs.declared.place.Place.{Place}
 use Rattle.trellis.specs.Places.{unreached}
 use Rattle.planner.specs.Layout.{Outside, Column, Columns, size_of}
 use Rattle.planner.proofs.Rows.{row_below, column_same}
+
+-- a list up to one place more, newest first
+pub newest_first : {X : Type 0} (xs : List X) (n : ℕ) (d : X) → n < length xs → reverse (take (n + 1) xs) ≡ slice_index_or xs n d ∷ reverse (take n xs)
+newest_first xs n d h = ap reverse (take_more xs n d h) ∙ reverse-append (take n xs) (slice_index_or xs n d ∷ [])
 
 -- the places of the first blocks of a stack, as `Sound` says it
 abbrev pub Stacked : {V : Type 0} → Model V → Terms → List Block → List (Place V) → Type 0

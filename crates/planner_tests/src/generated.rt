@@ -1,8 +1,9 @@
 // Plans and fewest bits held to an enumeration of all choices, over generated photographs.
-use crate::all_choices::{best_within, count, fewest_within, way_back};
+use crate::all_choices::Blocks;
 use crate::photographs::{Dice, Photograph};
 use crate::plain::Plain;
 use costs::{Total, Worst};
+use faults::Fault;
 use planner::Planner;
 use std::process::Abort;
 use std::test::Fail;
@@ -12,46 +13,31 @@ const PHOTOGRAPHS: usize = 300;
 
 // A list of 5 entries with these grades in the first ones and 9 in the others.
 fn listed(blocks: usize, grades: [usize; 4]) -> [usize; 5] {
-    let mut list = [9; 5];
-    for n in 0..4usize {
-        if n < blocks {
-            list[n] = grades[n];
-        }
-    }
-    list
-}
-
-fn widened(grades: [u8; 5]) -> [usize; 5] {
-    let mut wide = [0; 5];
-    for n in 0..5usize {
-        wide[n] = grades[n] as usize;
-    }
-    wide
+    let listed = &grades[..blocks.min(4)];
+    std::array::from_fn(|n| listed.get(n).copied().unwrap_or(9))
 }
 
 // One plan: the cost is the least of all choices within the budget, and ties go as they should; nothing fits where no choice does.
 fn plan_holds<K: Plain>(
     rt: &impl Abort,
-    photograph: &Photograph,
+    blocks: Blocks,
     planner: &Planner<K>,
-    blocks: usize,
     budget: u32,
 ) -> Result<(), Fail> {
-    let counting = K::counting();
     let mut grades = [9; 5];
     let answer = planner.plan(budget, &mut grades);
-    let grades = widened(grades);
-    match (answer, best_within(photograph, counting, blocks, budget)) {
+    let grades = grades.map(usize::from);
+    match (answer, blocks.best_within::<K>(budget)) {
         (Ok((bits, cost)), Some(end)) => {
             assert!(rt; bits <= budget);
             assert_eq!(rt; bits, end.bits);
             assert_eq!(rt; cost.number(), end.cost);
             assert_eq!(rt;
                 grades,
-                listed(blocks, way_back(photograph, counting, blocks, end))
+                listed(blocks.count, blocks.way_back::<K>(end))
             );
             let chosen = [grades[0], grades[1], grades[2], grades[3]];
-            match count(photograph, counting, blocks, chosen) {
+            match blocks.count::<K>(chosen) {
                 Some(counted) => {
                     assert_eq!(rt; counted.bits, bits);
                     assert_eq!(rt; counted.cost, cost.number());
@@ -73,27 +59,22 @@ fn plan_holds<K: Plain>(
 // Fewest bits at one bound: those of all choices, and at most a budget exactly where the plan there is within the bound.
 fn fewest_holds<K: Plain>(
     rt: &impl Abort,
-    photograph: &Photograph,
+    blocks: Blocks,
     planner: &Planner<K>,
-    blocks: usize,
     bound: u32,
 ) -> Result<(), Fail> {
-    let expected = fewest_within(photograph, K::counting(), blocks, bound);
+    let expected = blocks.fewest_within::<K>(bound);
     match (planner.fewest(K::of(bound)), expected) {
         (Ok(bits), Some(least)) => assert_eq!(rt; bits, least),
         (Err(fault), None) => assert_eq!(rt; fault.number(), 36),
         (Ok(_), None) => return Err(Fail::new("bits where no choice is within the bound")),
         (Err(_), Some(_)) => return Err(Fail::new("no bits where a choice is within the bound")),
     }
-    for budget in 0..photograph.ceiling.saturating_add(1) {
-        let enough = match expected {
-            Some(bits) => bits <= budget,
-            None => false,
-        };
-        let within = match planner.plan(budget, &mut [0; 4]) {
-            Ok((_, cost)) => cost.number() <= bound,
-            Err(_) => false,
-        };
+    for budget in 0..blocks.photograph.ceiling.saturating_add(1) {
+        let enough = expected.is_some_and(|bits| bits <= budget);
+        let within = planner
+            .plan(budget, &mut [0; 4])
+            .is_ok_and(|(_, cost)| cost.number() <= bound);
         assert_eq!(rt; within, enough);
     }
     Ok(())
@@ -102,16 +83,15 @@ fn fewest_holds<K: Plain>(
 // Every budget through the ceiling, and bounds below and over every cost.
 fn answers_hold<K: Plain>(
     rt: &impl Abort,
-    photograph: &Photograph,
+    blocks: Blocks,
     planner: &Planner<K>,
-    blocks: usize,
 ) -> Result<(), Fail> {
-    assert_eq!(rt; planner.standing(), blocks);
-    for budget in 0..photograph.ceiling.saturating_add(1) {
-        plan_holds(rt, photograph, planner, blocks, budget)?;
+    assert_eq!(rt; planner.standing(), blocks.count);
+    for budget in 0..blocks.photograph.ceiling.saturating_add(1) {
+        plan_holds(rt, blocks, planner, budget)?;
     }
     for bound in 0..13 {
-        fewest_holds(rt, photograph, planner, blocks, bound)?;
+        fewest_holds(rt, blocks, planner, bound)?;
     }
     Ok(())
 }
@@ -122,21 +102,18 @@ fn photograph_holds<K: Plain>(
     photograph: &Photograph,
     places: &mut [Place<K>],
 ) -> Result<(), Fail> {
+    let first = |count| Blocks { photograph, count };
     let mut planner = Planner::open(photograph.terms()?, places);
-    answers_hold(rt, photograph, &planner, 0)?;
+    answers_hold(rt, first(0), &planner)?;
     for n in 0..photograph.blocks {
         planner.add(&photograph.block(n)?)?;
-        answers_hold(rt, photograph, &planner, n.saturating_add(1))?;
+        answers_hold(rt, first(n.saturating_add(1)), &planner)?;
     }
+    let last = photograph.blocks.saturating_sub(1);
     planner.take_back()?;
-    answers_hold(
-        rt,
-        photograph,
-        &planner,
-        photograph.blocks.saturating_sub(1),
-    )?;
-    planner.add(&photograph.block(photograph.blocks.saturating_sub(1))?)?;
-    answers_hold(rt, photograph, &planner, photograph.blocks)
+    answers_hold(rt, first(last), &planner)?;
+    planner.add(&photograph.block(last)?)?;
+    answers_hold(rt, first(photograph.blocks), &planner)
 }
 
 // A few hundred photographs, one after the other. The places keep what the photograph before left in them.

@@ -1,8 +1,8 @@
 // What the places and the grade list hold after each call, and after a refused one.
-use crate::steps::{
-    Offers, Step, flat_terms, is_clear, open_and_follow, reached, same_place, same_places,
-};
+use crate::steps::{Offers, Step, open_and_follow, reached};
 use std::test::Fail;
+use terms::Terms;
+use trellis::Place;
 
 // 2 grades, ceiling 4 and a charge of 1: a block takes 10 places. The first block is reached at 1 bit in grade 0 and at 4 bits in
 // grade 1; the second at 1 + 2 bits in grade 0, and in grade 1, with the charge, at 1 + 1 + 1 bits.
@@ -15,20 +15,20 @@ fn places_lie_by_block_and_grade_and_bits(rt: HostRuntime) -> Result<(), Fail> {
     let mut places = [reached(77); 25];
     open_and_follow(
         &rt,
-        flat_terms(2, 4, 1),
+        Terms::flat(2, 4, 1),
         &mut places,
         &[Step::Add(FIRST), Step::Add(SECOND)],
     )?;
     for (k, place) in places.into_iter().enumerate() {
         let expected = match k {
-            1 => same_place(place, reached(9)),
-            9 => same_place(place, reached(1)),
-            13 => same_place(place, reached(14)),
-            18 => same_place(place, reached(15)),
-            20..=24 => same_place(place, reached(77)),
-            _ => is_clear(place),
+            1 => reached(9),
+            9 => reached(1),
+            13 => reached(14),
+            18 => reached(15),
+            20..=24 => reached(77),
+            _ => Place::unreached(),
         };
-        assert!(rt; expected);
+        assert_eq!(rt; place, expected);
     }
     Ok(())
 }
@@ -39,7 +39,7 @@ fn an_unreached_place_holds_the_start_value(rt: HostRuntime) -> Result<(), Fail>
     let mut places = [reached(77); 20];
     open_and_follow(
         &rt,
-        flat_terms(2, 4, 1),
+        Terms::flat(2, 4, 1),
         &mut places,
         &[
             Step::Add([Some((5, 3)), None]),
@@ -47,7 +47,7 @@ fn an_unreached_place_holds_the_start_value(rt: HostRuntime) -> Result<(), Fail>
         ],
     )?;
     for place in places {
-        assert!(rt; is_clear(place));
+        assert_eq!(rt; place, Place::unreached());
     }
     Ok(())
 }
@@ -58,14 +58,14 @@ fn only_an_add_writes_places(rt: HostRuntime) -> Result<(), Fail> {
     let mut undisturbed = [reached(77); 25];
     open_and_follow(
         &rt,
-        flat_terms(2, 4, 1),
+        Terms::flat(2, 4, 1),
         &mut undisturbed,
         &[Step::Add(FIRST), Step::Add(SECOND)],
     )?;
     let mut places = [reached(77); 25];
     open_and_follow(
         &rt,
-        flat_terms(2, 4, 1),
+        Terms::flat(2, 4, 1),
         &mut places,
         &[
             Step::TakeBackRefused(32),
@@ -85,7 +85,7 @@ fn only_an_add_writes_places(rt: HostRuntime) -> Result<(), Fail> {
             Step::TakeBack,
         ],
     )?;
-    assert!(rt; same_places(&places, &undisturbed));
+    assert_eq!(rt; places, undisturbed);
     Ok(())
 }
 
@@ -95,14 +95,14 @@ fn another_block_takes_the_places_of_one_taken_back(rt: HostRuntime) -> Result<(
     let mut straight = [reached(77); 25];
     open_and_follow(
         &rt,
-        flat_terms(2, 4, 1),
+        Terms::flat(2, 4, 1),
         &mut straight,
         &[Step::Add(FIRST), Step::Add(SECOND)],
     )?;
     let mut places = [reached(77); 25];
     open_and_follow(
         &rt,
-        flat_terms(2, 4, 1),
+        Terms::flat(2, 4, 1),
         &mut places,
         &[
             Step::Add(FIRST),
@@ -114,6 +114,6 @@ fn another_block_takes_the_places_of_one_taken_back(rt: HostRuntime) -> Result<(
             Step::Plan(4, 3, Ok((3, 14)), [0, 0, 7]),
         ],
     )?;
-    assert!(rt; same_places(&places, &straight));
+    assert_eq!(rt; places, straight);
     Ok(())
 }

@@ -42,10 +42,10 @@ pub(crate) struct Photograph {
 // Charges of 0 to 4, one for each direction.
 fn any_charges(dice: &mut Dice) -> [[u32; 4]; 4] {
     let mut charges = [[0; 4]; 4];
-    for from in 0..4usize {
-        for to in 0..4usize {
+    for (from, row) in charges.iter_mut().enumerate() {
+        for (to, charge) in row.iter_mut().enumerate() {
             if from != to {
-                charges[from][to] = dice.roll(5);
+                *charge = dice.roll(5);
             }
         }
     }
@@ -66,9 +66,9 @@ fn any_offer(dice: &mut Dice) -> Option<(u32, u32)> {
 
 fn any_offers(dice: &mut Dice) -> [[Option<(u32, u32)>; 4]; 4] {
     let mut offers = [[None; 4]; 4];
-    for n in 0..4usize {
-        for grade in 0..4usize {
-            offers[n][grade] = any_offer(dice);
+    for block in offers.iter_mut() {
+        for offer in block.iter_mut() {
+            *offer = any_offer(dice);
         }
     }
     offers
@@ -86,26 +86,25 @@ impl Photograph {
         }
     }
 
-    // What a block offers at a grade.
+    // What a block offers at a grade below the number of grades.
     pub(crate) fn offer(&self, n: usize, grade: usize) -> Option<(u32, u32)> {
-        if n < 4 && grade < 4 {
-            self.offers[n][grade]
+        if grade < self.grades as usize {
+            self.written(n, grade)
         } else {
             None
         }
     }
 
+    // What is written for a block at a grade, over the number of grades too.
+    fn written(&self, n: usize, grade: usize) -> Option<(u32, u32)> {
+        *self.offers.get(n)?.get(grade)?
+    }
+
     // The charge into a grade; the first block pays none.
     pub(crate) fn charge(&self, before: Option<usize>, grade: usize) -> u32 {
         match before {
-            Some(before) => {
-                if before < 4 && grade < 4 {
-                    self.charges[before][grade]
-                } else {
-                    0
-                }
-            }
-            None => 0,
+            Some(before) if before < 4 && grade < 4 => self.charges[before][grade],
+            _ => 0,
         }
     }
 
@@ -126,7 +125,7 @@ impl Photograph {
     pub(crate) fn block(&self, n: usize) -> Result<OwnBlock, BlockFault> {
         let mut block = OwnBlock::new();
         for grade in 0..4u8 {
-            if let Some((rate, distortion)) = self.offer(n, grade as usize) {
+            if let Some((rate, distortion)) = self.written(n, grade as usize) {
                 block.set(grade, rate, distortion)?;
             }
         }

@@ -1,11 +1,12 @@
 // Each refusal of the planner at its edge, their order, and how faults are shown.
 use crate::plain::Plain;
-use crate::steps::{Step, flat_terms, follow, open_and_follow, reached};
+use crate::steps::{Step, follow, open_and_follow, reached};
 use costs::{Total, Worst};
-use faults::Layer;
+use faults::{Fault, Layer};
 use planner::{Planner, PlannerFault};
 use std::process::Abort;
 use std::test::Fail;
+use terms::Terms;
 use trellis::Place;
 
 #[test]
@@ -36,7 +37,7 @@ fn faults_are_shown_as_layer_and_number(rt: HostRuntime) -> Result<(), Fail> {
 // One grade and ceiling 0: a block takes one place. 64 blocks stand, and a 65th is refused with a place to spare and with none.
 fn sixty_four_stand(rt: &impl Abort, places: &mut [Place<Total>]) -> Result<(), Fail> {
     let block = [Some((0, 2)), None];
-    let mut planner = Planner::open(flat_terms(1, 0, 0)?, places);
+    let mut planner = Planner::open(Terms::flat(1, 0, 0)?, places);
     for n in 0..64usize {
         follow(rt, &mut planner, &[Step::Standing(n), Step::Add(block)])?;
     }
@@ -73,13 +74,13 @@ fn a_block_takes_a_place_for_each_grade_and_number_of_bits(rt: HostRuntime) -> R
         Step::AddRefused(block, 31),
         Step::Standing(1),
     ];
-    open_and_follow(&rt, flat_terms(4, 3, 0), &mut [reached(5); 0], &none)?;
-    open_and_follow(&rt, flat_terms(4, 3, 0), &mut [reached(5); 15], &none)?;
-    open_and_follow(&rt, flat_terms(4, 3, 0), &mut [reached(5); 16], &one)?;
-    open_and_follow(&rt, flat_terms(4, 3, 0), &mut [reached(5); 31], &one)?;
+    open_and_follow(&rt, Terms::flat(4, 3, 0), &mut [reached(5); 0], &none)?;
+    open_and_follow(&rt, Terms::flat(4, 3, 0), &mut [reached(5); 15], &none)?;
+    open_and_follow(&rt, Terms::flat(4, 3, 0), &mut [reached(5); 16], &one)?;
+    open_and_follow(&rt, Terms::flat(4, 3, 0), &mut [reached(5); 31], &one)?;
     open_and_follow(
         &rt,
-        flat_terms(4, 3, 0),
+        Terms::flat(4, 3, 0),
         &mut [reached(5); 32],
         &[
             Step::Add(block),
@@ -94,7 +95,7 @@ fn a_block_takes_a_place_for_each_grade_and_number_of_bits(rt: HostRuntime) -> R
 fn taking_back_wants_a_block(rt: HostRuntime) -> Result<(), Fail> {
     open_and_follow(
         &rt,
-        flat_terms(2, 1, 0),
+        Terms::flat(2, 1, 0),
         &mut [reached(5); 4],
         &[
             Step::TakeBackRefused(32),
@@ -112,7 +113,7 @@ fn taking_back_wants_a_block(rt: HostRuntime) -> Result<(), Fail> {
 fn a_budget_goes_through_the_ceiling(rt: HostRuntime) -> Result<(), Fail> {
     open_and_follow(
         &rt,
-        flat_terms(2, 10, 2),
+        Terms::flat(2, 10, 2),
         &mut [reached(5); 44],
         &[
             // with no block too, and before the list is looked at
@@ -133,7 +134,7 @@ fn a_budget_goes_through_the_ceiling(rt: HostRuntime) -> Result<(), Fail> {
 fn the_list_has_an_entry_for_each_block(rt: HostRuntime) -> Result<(), Fail> {
     open_and_follow(
         &rt,
-        flat_terms(2, 10, 2),
+        Terms::flat(2, 10, 2),
         &mut [reached(5); 44],
         &[
             Step::Plan(10, 0, Ok((0, 0)), [7, 7, 7]),
@@ -155,7 +156,7 @@ fn the_list_has_an_entry_for_each_block(rt: HostRuntime) -> Result<(), Fail> {
 fn nothing_fits_without_a_choice(rt: HostRuntime) -> Result<(), Fail> {
     open_and_follow(
         &rt,
-        flat_terms(2, 10, 2),
+        Terms::flat(2, 10, 2),
         &mut [reached(5); 44],
         &[
             Step::Add([None, None]),
@@ -182,7 +183,7 @@ fn fewest_goes_by_the_bound(rt: HostRuntime) -> Result<(), Fail> {
     };
     open_and_follow(
         &rt,
-        flat_terms(2, 10, 2),
+        Terms::flat(2, 10, 2),
         &mut [place; 22],
         &[
             Step::Fewest(0, Ok(0)),
@@ -200,7 +201,7 @@ fn fewest_goes_by_the_bound(rt: HostRuntime) -> Result<(), Fail> {
 fn with_no_block_the_plan_is_empty(rt: HostRuntime) -> Result<(), Fail> {
     open_and_follow(
         &rt,
-        flat_terms(16, 4095, 255),
+        Terms::flat(16, 4095, 255),
         &mut [reached(5); 0],
         &[
             Step::Standing(0),

@@ -1,11 +1,12 @@
 // Whole runs, refused calls counted in.
 use crate::plain::{Plain, fewest_number, plan_numbers};
-use crate::steps::{Offers, block_of, flat_terms, reached, same_place};
+use crate::steps::{Offers, block_of, reached};
 use costs::{Total, Worst};
 use offers::OwnBlock;
 use planner::{Call, Question, replay};
 use std::process::Abort;
 use std::test::Fail;
+use terms::Terms;
 use trellis::Place;
 
 const FIRST: Offers = [Some((1, 9)), Some((4, 1))];
@@ -27,15 +28,15 @@ fn ends<K: Plain>(
     entries: usize,
 ) -> Result<Ends, Fail> {
     let mut list = [7; 3];
-    let lent = if entries < 3 { entries } else { 3 };
-    let terms = flat_terms(2, 10, 2)?;
+    let lent = entries.min(3);
+    let terms = Terms::flat(2, 10, 2)?;
     let answers = replay(
         terms,
         places,
         calls,
         budget,
         K::of(bound),
-        &mut list[0..lent],
+        &mut list[..lent],
     );
     Ok((
         plan_numbers(answers.plan),
@@ -80,7 +81,7 @@ fn a_run_with_refused_calls(rt: HostRuntime) -> Result<(), Fail> {
     let said = ends(&mut places, &calls, 6, 13, 3)?;
     assert_eq!(rt; said, (Ok((6, 11)), Ok(6), [0, 1, 7]));
     for (k, place) in places.into_iter().enumerate() {
-        assert!(rt; k < 44 || same_place(place, reached(3)));
+        assert!(rt; k < 44 || place == reached(3));
     }
     Ok(())
 }

@@ -1,6 +1,7 @@
 // Steps of a test: a call, and what it should answer.
-use crate::plain::{Plain, fewest_number, plan_in, refused};
+use crate::plain::{Plain, fewest_number, plan_in};
 use costs::Total;
+use faults::refusal_number;
 use offers::{BlockFault, OwnBlock};
 use planner::Planner;
 use std::process::Abort;
@@ -24,18 +25,10 @@ pub(crate) enum Step {
     Fewest(u32, Result<u32, u32>),
 }
 
-// Terms with one charge for every change of grade.
-pub(crate) fn flat_terms(grades: u32, ceiling: u32, charge: u32) -> Result<Terms, TermsFault> {
-    let mut terms = Terms::new();
-    terms.reset(grades, ceiling)?;
-    terms.set_flat(charge)?;
-    Ok(terms)
-}
-
 pub(crate) fn block_of(offers: Offers) -> Result<OwnBlock, BlockFault> {
     let mut block = OwnBlock::new();
-    for grade in 0..2u8 {
-        if let Some((rate, distortion)) = offers[grade as usize] {
+    for (grade, offer) in (0..2).zip(offers) {
+        if let Some((rate, distortion)) = offer {
             block.set(grade, rate, distortion)?;
         }
     }
@@ -45,19 +38,19 @@ pub(crate) fn block_of(offers: Offers) -> Result<OwnBlock, BlockFault> {
 fn follow_one<K: Plain>(rt: &impl Abort, planner: &mut Planner<K>, step: Step) -> Result<(), Fail> {
     match step {
         Step::Add(offers) => {
-            assert_eq!(rt; refused(planner.add(&block_of(offers)?)), None);
+            assert_eq!(rt; refusal_number(planner.add(&block_of(offers)?)), None);
             Ok(())
         }
         Step::AddRefused(offers, number) => {
-            assert_eq!(rt; refused(planner.add(&block_of(offers)?)), Some(number));
+            assert_eq!(rt; refusal_number(planner.add(&block_of(offers)?)), Some(number));
             Ok(())
         }
         Step::TakeBack => {
-            assert_eq!(rt; refused(planner.take_back()), None);
+            assert_eq!(rt; refusal_number(planner.take_back()), None);
             Ok(())
         }
         Step::TakeBackRefused(number) => {
-            assert_eq!(rt; refused(planner.take_back()), Some(number));
+            assert_eq!(rt; refusal_number(planner.take_back()), Some(number));
             Ok(())
         }
         Step::Standing(blocks) => {
@@ -103,25 +96,4 @@ pub(crate) fn reached(total: u32) -> Place<Total> {
         reached: true,
         cost: Total(total),
     }
-}
-
-// Whether the place is one that no choice reaches, with the start value in it.
-pub(crate) fn is_clear(place: Place<Total>) -> bool {
-    !place.reached && place.cost == Total(0)
-}
-
-pub(crate) fn same_place(one: Place<Total>, other: Place<Total>) -> bool {
-    one.reached == other.reached && one.cost == other.cost
-}
-
-pub(crate) fn same_places(some: &[Place<Total>], others: &[Place<Total>]) -> bool {
-    if some.len() != others.len() {
-        return false;
-    }
-    for k in 0..some.len() {
-        if !same_place(some[k], others[k]) {
-            return false;
-        }
-    }
-    true
 }

@@ -1,14 +1,15 @@
 // The worked job: two grades, ceiling 10 and 2 bits for each change; 1 bit for 9 or 4 bits for 1, then 1 bit for 5 or 3 bits for 2.
-use crate::steps::{Step, flat_terms, open_and_follow, reached};
+use crate::steps::{Step, open_and_follow, reached};
 use costs::Worst;
 use std::test::Fail;
+use terms::Terms;
 use trellis::Place;
 
 #[test]
 fn totals_of_the_worked_job(rt: HostRuntime) -> Result<(), Fail> {
     open_and_follow(
         &rt,
-        flat_terms(2, 10, 2),
+        Terms::flat(2, 10, 2),
         &mut [reached(3); 44],
         &[
             Step::Add([Some((1, 9)), Some((4, 1))]),
@@ -33,7 +34,7 @@ fn worsts_of_the_worked_job(rt: HostRuntime) -> Result<(), Fail> {
     };
     open_and_follow(
         &rt,
-        flat_terms(2, 10, 2),
+        Terms::flat(2, 10, 2),
         &mut [place; 44],
         &[
             Step::Add([Some((1, 9)), Some((4, 1))]),

@@ -1,8 +1,7 @@
 // The blocks of the jobs: own and gain blocks of one type, through extra bits and then a weight.
 ghost use Rattle.std.specs.Prelude.{◌≡◌, IfOk};
 
-use offers::{BlockFault, Either, Extended, Extra, GainBlock, OwnBlock, Weight, Weighted};
-use terms::{Terms, TermsFault};
+use offers::{BlockFault, Change, Either, Extended, Extra, GainBlock, OwnBlock, Weight, Weighted};
 
 pub(crate) type Source = Weighted<Extended<Either<OwnBlock, GainBlock>>>;
 
@@ -11,7 +10,7 @@ fn layered(
     extra: u32,
     block: Either<OwnBlock, GainBlock>,
 ) -> Result<Source, BlockFault>
-    ensures { IfOk result (λ source. (source.weight.times ≡ weight) × (source.below.extra.bits ≡ extra) × (source.below.below ≡ block)) }
+    ensures { IfOk result (λ source. (source.layer.times ≡ weight) × (source.below.layer.bits ≡ extra) × (source.below.below ≡ block)) }
 {
     let weight = Weight::new(weight)?;
     let extra = Extra::new(extra)?;
@@ -34,12 +33,4 @@ pub(crate) fn own(
 pub(crate) fn gain(weight: u32, extra: u32, samples: u32, gain: u32) -> Result<Source, BlockFault> {
     let block = GainBlock::new(samples, gain)?;
     layered(weight, extra, Either::Right(block))
-}
-
-// Terms with a flat charge.
-pub(crate) fn terms_of(grades: u32, ceiling: u32, charge: u32) -> Result<Terms, TermsFault> {
-    let mut terms = Terms::new();
-    terms.reset(grades, ceiling)?;
-    terms.set_flat(charge)?;
-    Ok(terms)
 }

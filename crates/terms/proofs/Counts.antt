@@ -10,10 +10,6 @@ use Rattle.terms.specs.Rules.{Rules, charge_into}
 use Rattle.terms.specs.Choice.{Block, offer_at, offered, newest, Choice, CountsOnce, Counted}
 use Rattle.terms.specs.Choice.Choice.{empty, next}
 
--- a list up to one place more, newest first
-pub newest_first : {X : Type 0} (xs : List X) (n : ℕ) (d : X) → n < length xs → reverse (take (n + 1) xs) ≡ get_or xs n d ∷ reverse (take n xs)
-newest_first xs n d h = ap reverse (take_more xs n d h) ∙ reverse-append (take n xs) (get_or xs n d ∷ [])
-
 -- a count of blocks and grades of which some are left: those before them are a choice
 pub record Counting {V : Type 0} (m : Model V) (rules : Rules) (blocks : List Block) (grades : List ℕ) (left : List Block) (rest : List ℕ) (last : Option ℕ) (bits : ℕ) (cost : V) : Type 0 where
   pub long : length left ≡ length rest

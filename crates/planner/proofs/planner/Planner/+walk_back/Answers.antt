@@ -1,11 +1,10 @@
 use Rattle.std.proofs.Common.{◌≡◌, ◌+◌, ◌-◌, ◌<◌, [], ◌∷◌, length, reverse, take, sym, ap, ◌∙◌, subst, arith, slice_index, slice_index_or, slice_set}
 use Rattle.std.proofs.lemmas.List.{get_or-set_same, length-set}
-use Rattle.terms.proofs.Counts.{newest_first}
 use Rattle.terms.specs.Rules.{rules_of}
 use Rattle.trellis.specs.Named.{Kept, WayBack}
 use Rattle.trellis.specs.Named.WayBack.{first}
 use Rattle.planner.specs.Standing.{blocks_to}
-use Rattle.planner.proofs.Stacks.{head_on}
+use Rattle.planner.proofs.Stacks.{newest_first, head_on}
 use Rattle.planner.proofs.planner.Planner.+walk_back.Goals as goal
 
 pub returns-then-n-gt0-clause-way : goal.returns-then-n-gt0-clause-way
