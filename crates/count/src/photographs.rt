@@ -4,7 +4,7 @@ ghost use Rattle.offers.specs.Offers.{offers_below};
 ghost use Rattle.terms.specs.Rules.{Fresh, charge_at};
 ghost use Rattle.count.specs.Photographs.{two_offers, layered_offers};
 
-use offers::{Block, BlockFault, Extra, GainBlock, OwnBlock, Weight, offers_below};
+use offers::{Block, BlockFault, Change, Extra, GainBlock, OwnBlock, Weight, offers_below};
 use terms::{Terms, TermsFault};
 
 // Two grades, ceiling 10, and 2 bits for each change.

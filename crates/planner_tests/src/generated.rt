@@ -32,10 +32,7 @@ fn plan_holds<K: Plain>(
             assert!(rt; bits <= budget);
             assert_eq!(rt; bits, end.bits);
             assert_eq!(rt; cost.number(), end.cost);
-            assert_eq!(rt;
-                grades,
-                listed(blocks.count, blocks.way_back::<K>(end))
-            );
+            assert_eq!(rt; grades, listed(blocks.count, blocks.way_back::<K>(end)));
             let chosen = [grades[0], grades[1], grades[2], grades[3]];
             match blocks.count::<K>(chosen) {
                 Some(counted) => {

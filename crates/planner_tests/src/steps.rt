@@ -42,7 +42,10 @@ fn follow_one<K: Plain>(rt: &impl Abort, planner: &mut Planner<K>, step: Step) -
             Ok(())
         }
         Step::AddRefused(offers, number) => {
-            assert_eq!(rt; refusal_number(planner.add(&block_of(offers)?)), Some(number));
+            assert_eq!(rt;
+                refusal_number(planner.add(&block_of(offers)?)),
+                Some(number)
+            );
             Ok(())
         }
         Step::TakeBack => {

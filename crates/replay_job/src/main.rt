@@ -15,7 +15,9 @@ fn worked<K: Numbered + Clone>(rt: &HostRuntime) -> anyhow::Result<()> {
     let terms = Terms::flat(2, 10, 2)?;
     let first = own(1, 0, (1, 9), (4, 1))?;
     let second = own(1, 0, (1, 5), (3, 2))?;
-    let mut calls = vec![in rt.alloc(); Call::Add(first), Call::Add(second)]?;
+    let mut calls = Vec::new(rt.alloc());
+    calls.push(Call::Add(first))?;
+    calls.push(Call::Add(second))?;
     show_run::<K>(rt, &terms, &calls, 1, 13)?;
     show_run::<K>(rt, &terms, &calls, 6, 13)?;
     show_run::<K>(rt, &terms, &calls, 7, 2)?;
@@ -36,20 +38,18 @@ fn mixed<K: Numbered + Clone>(rt: &HostRuntime) -> anyhow::Result<()> {
     let plates = own(2, 1, (0, 30), (12, 4))?;
     let sky = gain(1, 2, 8, 3)?;
     let edge = gain(255, 0, 16, 128)?;
-    let question = Question::Plan {
+    let mut calls = Vec::new(rt.alloc());
+    calls.push(Call::TakeBack)?;
+    calls.push(Call::Add(plates))?;
+    calls.push(Call::Add(sky))?;
+    calls.push(Call::Ask(Question::Plan {
         budget: 61,
         entries: 64,
-    };
-    let calls = vec![in rt.alloc();
-        Call::TakeBack,
-        Call::Add(plates),
-        Call::Add(sky),
-        Call::Ask(question),
-        Call::Add(edge),
-        Call::TakeBack,
-        Call::Add(sky),
-        Call::Add(plates)
-    ]?;
+    }))?;
+    calls.push(Call::Add(edge))?;
+    calls.push(Call::TakeBack)?;
+    calls.push(Call::Add(sky))?;
+    calls.push(Call::Add(plates))?;
     for (budget, bound) in [(20, 100000), (40, 20000), (60, 1000)] {
         show_run::<K>(rt, &terms, &calls, budget, bound)?;
     }
