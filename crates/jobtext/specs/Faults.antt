@@ -1,7 +1,7 @@
 -- What is refused of a text as such: the number of each case. Assumes nothing.
 use Rattle.std.specs.Prelude.{ℕ}
-use Rattle.faults.specs.declared.Layer.{Layer}
-use Rattle.faults.specs.declared.Layer.TheVariants.{Text}
+use Rattle.faults.specs.declared.layer.Layer.{Layer}
+use Rattle.faults.specs.declared.layer.Layer.TheVariants.{Text}
 use Rattle.jobtext.specs.declared.fault.TextFault.{TextFault}
 use Rattle.jobtext.specs.declared.fault.TextFault.TheVariants.{WrongForm, WrongCount, UnknownFirst, OutOfPlace, TooLong}
 

@@ -1,17 +1,11 @@
 -- Bytes in parts between the bytes that separate them. Assumes nothing.
-use Rattle.std.specs.Prelude.{◌≡◌, ℕ, ◌<◌, cond, List, [], ◌∷◌, length, ◌==◌}
-use Rattle.std.specs.List.{join_with_byte, AllByRecursion}
+use Rattle.std.specs.Prelude.{◌≡◌, ℕ, ◌<◌, List, length, ◌==◌}
+use Rattle.std.specs.List.{join_with_byte, slice_split, AllByRecursion}
 use Rattle.std.specs.Str.Iter.{LacksByte}
-
--- a byte in front of the first part
-abbrev pub onto : ℕ → List (List ℕ) → List (List ℕ)
-onto byte [] = (byte ∷ []) ∷ []
-onto byte (part ∷ others) = (byte ∷ part) ∷ others
 
 -- the parts between the separators: one more than there are separators
 abbrev pub parts : ℕ → List ℕ → List (List ℕ)
-parts separator [] = [] ∷ []
-parts separator (byte ∷ bytes) = cond (byte == separator) ([] ∷ parts separator bytes) (onto byte (parts separator bytes))
+parts separator = slice_split (λ byte. byte == separator)
 
 -- what a splitting is: joined by the separator its parts are the bytes, and no part holds the separator
 pub record Splitting (separator : ℕ) (bytes : List ℕ) (split : List (List ℕ)) : Type 0 where

@@ -1,16 +1,16 @@
-// What is refused of a text as such, and the number and the layer of each case.
-ghost use Rattle.std.specs.Prelude.{◌≡◌, ◌∷◌, ◌++◌, Some, decimal};
-ghost use Rattle.faults.specs.Layers.{layer_name};
+// What is refused of a text as such, and the number of each case.
+ghost use Rattle.std.specs.Prelude.{Some};
+ghost use Rattle.faults.specs.Layers.{fault_text};
 ghost use Rattle.jobtext.specs.Faults.{text_number, text_layer};
 
-use faults::Layer;
+use faults::{Fault, Layer};
 use std::error::Error;
 use std::fmt;
 
 #[derive(Clone, Copy, PartialEq, Eq, Debug)]
 pub enum TextFault {
     // a field is not what is asked for in its place
-    WrongForm,
+    WrongForm = 1,
     // a line has too few or too many fields
     WrongCount,
     // a line begins with none of the letters
@@ -21,34 +21,26 @@ pub enum TextFault {
     TooLong,
 }
 
-impl TextFault {
-    pub fn number(self) -> u32
-        ensures { result ≡ text_number self }
-    {
-        match self {
-            TextFault::WrongForm => 1,
-            TextFault::WrongCount => 2,
-            TextFault::UnknownFirst => 3,
-            TextFault::OutOfPlace => 4,
-            TextFault::TooLong => 5,
-        }
+impl Fault for TextFault {
+    ghost layers = { text_layer };
+
+    ghost numbers = { text_number };
+
+    fn layer(self) -> Layer {
+        Layer::Text
     }
 
-    pub fn layer(self) -> Layer
-        ensures { result ≡ text_layer self }
-    {
-        Layer::Text
+    fn number(self) -> u32 {
+        self as u32
     }
 }
 
 // The layer and the number, as `text 1`.
 impl fmt::Display for TextFault {
-    ghost output = { λ fault. Some (layer_name (text_layer fault) ++ 32 ∷ decimal (text_number fault)) };
+    ghost output = { λ fault. Some (fault_text (text_layer fault) (text_number fault)) };
 
     fn fmt<W: fmt::Write>(&self, f: &mut fmt::Formatter<W>) -> fmt::Result {
-        let layer = self.layer().name();
-        let number = self.number();
-        write!(f, "{layer} {number}")
+        write!(f, "{} {}", self.layer(), self.number())
     }
 }
 

@@ -29,10 +29,7 @@ impl<'a> Iterator for Lines<'a> {
     ghost next_gives = { λ before line after. MatchOption line ((unread before ≡ []) × (unread after ≡ [])) (λ bytes. unread before ≡ bytes.now ∷ unread after) };
 
     fn next(&mut self) -> Option<&'a [u8]> {
-        let Some(rest) = self.rest else {
-            return None;
-        };
-        let (line, after) = cut(rest, b'\n');
+        let (line, after) = cut(self.rest?, b'\n');
         self.rest = after;
         Some(line)
     }

@@ -2,29 +2,13 @@
 ghost use Rattle.std.specs.Prelude.{◌≡◌, ℕ, ◌+◌, ◌<◌, ◌≤◌, [], ◌∷◌, ◌++◌, length, MatchOption, ◌≢◌, slice_index, slice_index_or};
 ghost use Rattle.jobtext.specs.Parts.{parts, line_fields};
 
-// Where the first separator stands, or how many bytes there are where none stands.
-fn first_separator(bytes: &[u8], separator: u8) -> usize
-    ensures within { result ≤ length bytes.now }
-    ensures before { (k : ℕ) → k < result → slice_index bytes.now k ≢ separator }
-    ensures stands { result < length bytes.now → slice_index bytes.now result ≡ separator }
-{
-    for (i, byte) in bytes.iter().enumerate() {
-        if *byte == separator {
-            return i;
-        }
-    }
-    bytes.len()
-}
-
 // The first part, and what stands after the separator that ends it.
 pub(crate) fn cut(bytes: &[u8], separator: u8) -> (&[u8], Option<&[u8]>)
     ensures { MatchOption result.1 ((result.0.now ≡ bytes.now) × (parts separator bytes.now ≡ result.0.now ∷ [])) (λ rest. (bytes.now ≡ result.0.now ++ separator ∷ rest.now) × (parts separator bytes.now ≡ result.0.now ∷ parts separator rest.now)) }
 {
-    let i = first_separator(bytes, separator);
-    if i < bytes.len() {
-        (&bytes[0..i], Some(&bytes[i + 1..]))
-    } else {
-        (bytes, None)
+    match bytes.iter().position(|byte| *byte == separator) {
+        Some(i) => (&bytes[..i], Some(&bytes[i + 1..])),
+        None => (bytes, None),
     }
 }
 
@@ -32,27 +16,12 @@ pub(crate) fn cut(bytes: &[u8], separator: u8) -> (&[u8], Option<&[u8]>)
 pub fn field_count(line: &[u8]) -> usize
     ensures { result ≡ length (line_fields line.now) }
 {
-    let mut commas = 0;
-    for byte in line {
-        if *byte == b',' {
-            commas += 1;
-        }
-    }
-    commas + 1
+    line.split(|byte| *byte == b',').count()
 }
 
 // The field of a line at an index, counted from 0.
 pub fn field(line: &[u8], index: usize) -> Option<&[u8]>
     ensures { MatchOption result (length (line_fields line.now) ≤ index) (λ part. (index < length (line_fields line.now)) × (part.now ≡ slice_index_or (line_fields line.now) index [])) }
 {
-    let mut rest = line;
-    for _ in 0..index {
-        let (_, after) = cut(rest, b',');
-        match after {
-            Some(after) => rest = after,
-            None => return None,
-        }
-    }
-    let (part, _) = cut(rest, b',');
-    Some(part)
+    line.split(|byte| *byte == b',').nth(index)
 }

@@ -49,8 +49,5 @@ fn letter_of(field: &[u8]) -> Option<char>
 pub fn letter_at(line: &[u8], index: usize) -> Option<char>
     ensures { MatchOption result ((letter : ℕ) → slice_index_or (line_fields line.now) index [] ≢ letter ∷ []) (λ letter. slice_index_or (line_fields line.now) index [] ≡ letter ∷ []) }
 {
-    let Some(field) = field(line, index) else {
-        return None;
-    };
-    letter_of(field)
+    field(line, index).and_then(letter_of)
 }

@@ -1,13 +1,16 @@
-use Rattle.std.proofs.Common.{refl, arith}
-use native.Mathlib.Nat.{sub-zero}
+use Rattle.std.proofs.Common.{eqb, rules, sym, refl, ◌∙◌}
+use Rattle.std.proofs.lemmas.Iterator.{YieldsList-from_slice}
+use Rattle.std.proofs.lemmas.Iterator.Search.{position_from_yields_List}
 use Rattle.std.proofs.lemmas.List.{take_rest}
-use Rattle.jobtext.proofs.PartLaws.{cut_at, parts_none}
+use Rattle.jobtext.proofs.PartLaws.{cut_at, cut_none}
 use Rattle.jobtext.proofs.parts.cut.Goals as goal
 
-pub returns-then-i-bytes : goal.returns-then-i-bytes
-returns-then-i-bytes c =
-    let told = c.first_separator-i.ensures in
-    simp (take_rest, sub-zero) (cut_at c.args.separator c.first_separator-i.result _ c.args.bytes.now (omega arith) c.if-i-bytes.true told.before (told.stands c.if-i-bytes.true))
+pub returns-in-Some : goal.returns-in-Some
+returns-in-Some c =
+    let at = position_from_yields_List (λ b. eqb b c.args.separator) _ _ _ c.position.ensures.ran (YieldsList-from_slice c.args.bytes.now c.iter.ensures.rest) (λ x b q k. search rules) in
+    simp take_rest (cut_at c.args.separator c.args.bytes.now c.in-Some.i (sym at ∙ c.in-Some.is))
 
-pub returns-else-i-bytes : goal.returns-else-i-bytes
-returns-else-i-bytes c = (refl, parts_none c.args.separator c.args.bytes.now (λ k lt. c.first_separator-i.ensures.before k (omega arith)))
+pub returns-in-None : goal.returns-in-None
+returns-in-None c =
+    let at = position_from_yields_List (λ b. eqb b c.args.separator) _ _ _ c.position.ensures.ran (YieldsList-from_slice c.args.bytes.now c.iter.ensures.rest) (λ x b q k. search rules) in
+    (refl, cut_none c.args.separator c.args.bytes.now (sym at ∙ c.in-None.is))

@@ -1,16 +1,9 @@
-use Rattle.std.proofs.Common.{length, ap, arith}
-use Rattle.std.proofs.lemmas.List.{drop_all}
-use Rattle.jobtext.specs.Parts.{parts}
-use Rattle.jobtext.proofs.PartLaws.{count_is, count_other}
+use Rattle.std.proofs.Common.{eqb, rules}
+use Rattle.std.proofs.lemmas.Iterator.Consumers.{count_from_yields_List}
+use Rattle.std.proofs.lemmas.Iterator.Splits.{YieldsList-from_slice_split}
 use Rattle.jobtext.proofs.parts.field_count.Goals as goal
-use Rattle.jobtext.proofs.parts.field_count.Goals.{then-byte-eq44, else-byte-eq44}
-
-pub loop-byte-preserved : goal.loop-byte-preserved
-loop-byte-preserved c =
-    elim c.if-byte-eq44.branch [
-      | then-byte-eq44 w ↦ (omega (arith, w.commas-is), omega (arith, w.commas-is, count_is 44 c.loop-byte.byte-index c.args.line.now (omega arith) w.if-byte-eq44.true))
-      | else-byte-eq44 w ↦ (omega (arith, w.commas-is), omega (arith, w.commas-is, count_other 44 c.loop-byte.byte-index c.args.line.now (omega arith) w.if-byte-eq44.false))
-    ]
 
 pub returns : goal.returns
-returns c = omega (arith, ap (λ l. length (parts 44 l)) (drop_all c.loop-byte.byte-index c.args.line.now (omega arith)))
+returns c =
+    count_from_yields_List _ _ c.count.ensures.ran
+    (YieldsList-from_slice_split _ (λ b. eqb b 44) c.args.line.now c.split.ensures.rest c.split.ensures.done c.split.ensures.closure (λ x b q k. search rules))
