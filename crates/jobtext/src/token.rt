@@ -30,19 +30,16 @@ fn token_of(field: &[u8]) -> Token<'_>
 pub fn token_at(line: &[u8], index: usize) -> Token<'_>
     ensures { TokenOf (slice_index_or (line_fields line.now) index []) result }
 {
-    match field(line, index) {
-        Some(field) => token_of(field),
-        None => Token::Other(&line[0..0]),
-    }
+    token_of(field(line, index).unwrap_or(&[]))
 }
 
 fn letter_of(field: &[u8]) -> Option<char>
     ensures { MatchOption result ((letter : ℕ) → field.now ≢ letter ∷ []) (λ letter. field.now ≡ letter ∷ []) }
 {
-    match field {
-        [byte] => Some(char::from(*byte)),
-        _ => None,
-    }
+    let [byte] = field else {
+        return None;
+    };
+    Some(char::from(*byte))
 }
 
 // The byte that the field at an index is, where it is one byte; none where it has more or fewer.
