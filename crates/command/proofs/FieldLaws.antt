@@ -1,18 +1,12 @@
 -- A fault beside its field, and lists of fields told one by one. Assumes nothing.
-use Rattle.std.proofs.Common.{◌≡◌, ℕ, ◌+◌, true, List, [], ◌∷◌, length, drop, is_some, Ok, Err, Option, Result, sym, ap, ◌∙◌, subst, arith, MatchResult}
+use Rattle.std.proofs.Common.{◌≡◌, ℕ, ◌+◌, true, List, [], ◌∷◌, length, drop, is_some, Option, Result, sym, ap, ◌∙◌, subst, arith}
 use Rattle.std.proofs.lemmas.List.{drop_all, drop_more}
-use Rattle.std.proofs.lemmas.Result.{MatchResult-at_ok, MatchResult-at_err, MatchResult-weaker}
+use Rattle.std.proofs.lemmas.Result.{MatchResult-weaker}
 use Rattle.jobtext.specs.declared.kind.LineKind.{LineKind}
 use Rattle.command.specs.declared.commands.Command.{Command}
 use Rattle.command.specs.declared.fault.FieldFault.{FieldFault}
-use Rattle.command.specs.declared.fault.LineFault.{LineFault}
 use Rattle.command.specs.Lines.{grades_in, in_place, right_count, Framed, wrong_field, Spelt, Commands, ReadAfter, Read}
 use Rattle.command.specs.Pairs.{StandAt}
-
--- what held of an answer holds of it with the field beside its fault
-pub found_in : {T : Type 0} (r : Result T FieldFault) (answer : Result T LineFault) (field : ℕ) (P : T → Type 0) (Q : LineFault → Type 0) → MatchResult r (λ x. answer ≡ Ok x) (λ found. (found.field ≡ field) × (answer ≡ Err found.fault)) → MatchResult answer P Q → MatchResult r P (λ found. (found.field ≡ field) × Q found.fault)
-found_in (Ok x) answer field P Q told was = MatchResult-at_ok P Q x told was
-found_in (Err found) answer field P Q told was = (told.0, MatchResult-at_err P Q found.fault told.1 was)
 
 module _ (fields : List (List ℕ)) where
   stand_drop : (k : ℕ) (ys : List (List ℕ)) → length fields ≡ k + length ys → StandAt fields k ys → drop k fields ≡ ys

@@ -5,8 +5,8 @@ use borrow.Author.Tests.{both_ways}
 use Rattle.std.specs.List.{AllByRecursion}
 use Rattle.std.proofs.lemmas.Fmt.{decimal_injective}
 use Rattle.faults.specs.Refusals.{Row, first}
-use Rattle.faults.specs.declared.Layer.{Layer}
-use Rattle.faults.specs.declared.Layer.TheVariants.{Block}
+use Rattle.faults.specs.declared.layer.Layer.{Layer}
+use Rattle.faults.specs.declared.layer.Layer.TheVariants.{Block}
 use Rattle.jobtext.specs.Numbers.{Writes}
 use Rattle.jobtext.specs.declared.fault.TextFault.{TextFault}
 use Rattle.jobtext.specs.declared.fault.TextFault.TheVariants.{UnknownFirst, OutOfPlace, WrongCount}

@@ -7,7 +7,7 @@ use Rattle.std.specs.List.{AllByRecursion}
 use Rattle.std.proofs.lemmas.List.{get_or_past, get_or_append_left}
 use Rattle.std.proofs.str.Laws.{order}
 use Rattle.faults.specs.Refusals.{first}
-use Rattle.faults.specs.declared.Layer.{Layer}
+use Rattle.faults.specs.declared.layer.Layer.{Layer}
 use Rattle.offers.specs.Faults.{rate_row, distortion_row}
 use Rattle.offers.specs.Offers.{offer_of}
 use Rattle.offers.specs.Own.{own_means, OnlyAt}

@@ -1,8 +1,8 @@
 -- What is asked of a field, and the first field of a line that is not so. Assumes nothing.
-use Rattle.std.specs.Prelude.{◌≡◌, ℕ, zero, suc, ◌+◌, ◌^◌, ◌<◌, ◌⊎◌, List, [], ◌∷◌, Some, None, Result, MatchResult, ◌≢◌, slice_index_or}
+use Rattle.std.specs.Prelude.{◌≡◌, ℕ, zero, suc, ◌+◌, ◌^◌, ◌<◌, ◌⊎◌, List, [], ◌∷◌, Some, None, ◌≢◌, slice_index_or}
 use Rattle.faults.specs.Refusals.{Row, first}
-use Rattle.faults.specs.declared.Layer.{Layer}
-use Rattle.faults.specs.declared.Layer.TheVariants.{Text, Terms, Block}
+use Rattle.faults.specs.declared.layer.Layer.{Layer}
+use Rattle.faults.specs.declared.layer.Layer.TheVariants.{Text, Terms, Block}
 use Rattle.jobtext.specs.Faults.{text_number, text_layer}
 use Rattle.jobtext.specs.Numbers.{Writes, NoNumber}
 use Rattle.jobtext.specs.Tokens.{dash}
@@ -12,8 +12,6 @@ use Rattle.offers.specs.Faults.{weight_row, extra_row, samples_row, gain_row, ra
 use Rattle.terms.specs.Faults.{grades_row, ceiling_row, charge_row}
 use Rattle.command.specs.declared.commands.CostKind.{CostKind}
 use Rattle.command.specs.declared.commands.CostKind.TheVariants.{Total, Worst}
-use Rattle.command.specs.declared.fault.LineFault.{LineFault}
-use Rattle.command.specs.Faults.{fault_number, fault_layer}
 
 -- T and W
 abbrev pub cost_letter : CostKind → ℕ
@@ -101,7 +99,3 @@ FirstFails (demand ∷ demands) before fields k field layer number = ((field ≡
 abbrev pub pairs : ℕ → List Demand
 pairs zero = []
 pairs (suc grades) = a_rate ∷ a_distortion ∷ pairs grades
-
--- what the reading of one field answers: a good value, or the fault of its demand
-abbrev pub ReadAs : {T : Type 0} → Demand → List ℕ → (T → Type 0) → Result T LineFault → Type 0
-ReadAs demand field good r = MatchResult r good (λ fault. Fails demand [] field (fault_layer fault) (fault_number fault))

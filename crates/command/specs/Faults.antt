@@ -1,6 +1,6 @@
 -- The number and the layer of the fault of a line: those that the layer below gives it. Assumes nothing.
 use Rattle.std.specs.Prelude.{ℕ}
-use Rattle.faults.specs.declared.Layer.{Layer}
+use Rattle.faults.specs.declared.layer.Layer.{Layer}
 use Rattle.jobtext.specs.Faults.{text_number, text_layer}
 use Rattle.offers.specs.Faults.{block_number, block_layer}
 use Rattle.terms.specs.Faults.{terms_number, terms_layer}

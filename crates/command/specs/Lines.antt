@@ -1,7 +1,7 @@
 -- When a line is accepted, as which instruction, and when it is refused. Assumes nothing.
 use Rattle.std.specs.Prelude.{◌≡◌, ℕ, ◌+◌, ◌*◌, Bool, true, false, not, List, [], ◌∷◌, length, is_some, Some, None, Option, Result, MatchResult, ◌==◌, slice_index_or}
 use Rattle.std.specs.Borrow.{Bor}
-use Rattle.faults.specs.declared.Layer.{Layer}
+use Rattle.faults.specs.declared.layer.Layer.{Layer}
 use Rattle.jobtext.specs.Tokens.{kind_letter}
 use Rattle.jobtext.specs.declared.fault.TextFault.TheVariants.{WrongCount, UnknownFirst, OutOfPlace}
 use Rattle.jobtext.specs.declared.kind.LineKind.{LineKind}

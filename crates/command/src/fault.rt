@@ -1,10 +1,10 @@
 // Why a line is refused: a fault of the text, of terms or of a block, and the field where it was found.
-ghost use Rattle.std.specs.Prelude.{◌≡◌, ◌∷◌, ◌++◌, Some, Ok, Err, decimal, MatchResult};
-ghost use Rattle.faults.specs.Layers.{layer_name};
+ghost use Rattle.std.specs.Prelude.{◌≡◌, Some};
+ghost use Rattle.faults.specs.Layers.{fault_text};
 ghost use Rattle.command.specs.declared.fault.LineFault.TheVariants.{Text, Terms, Block};
 ghost use Rattle.command.specs.Faults.{fault_number, fault_layer};
 
-use faults::Layer;
+use faults::{Fault, Layer};
 use jobtext::TextFault;
 use offers::BlockFault;
 use std::error::Error;
@@ -19,36 +19,34 @@ pub enum LineFault {
     Block(BlockFault),
 }
 
-impl LineFault {
-    pub fn number(self) -> u32
-        ensures { result ≡ fault_number self }
-    {
-        match self {
-            LineFault::Text(fault) => fault.number(),
-            LineFault::Terms(fault) => fault.number(),
-            LineFault::Block(fault) => fault.number(),
-        }
-    }
+impl Fault for LineFault {
+    ghost layers = { fault_layer };
 
-    pub fn layer(self) -> Layer
-        ensures { result ≡ fault_layer self }
-    {
+    ghost numbers = { fault_number };
+
+    fn layer(self) -> Layer {
         match self {
             LineFault::Text(fault) => fault.layer(),
             LineFault::Terms(fault) => fault.layer(),
             LineFault::Block(fault) => fault.layer(),
         }
     }
+
+    fn number(self) -> u32 {
+        match self {
+            LineFault::Text(fault) => fault.number(),
+            LineFault::Terms(fault) => fault.number(),
+            LineFault::Block(fault) => fault.number(),
+        }
+    }
 }
 
 // The layer and the number, as `block 20`.
 impl fmt::Display for LineFault {
-    ghost output = { λ fault. Some (layer_name (fault_layer fault) ++ 32 ∷ decimal (fault_number fault)) };
+    ghost output = { λ fault. Some (fault_text (fault_layer fault) (fault_number fault)) };
 
     fn fmt<W: fmt::Write>(&self, f: &mut fmt::Formatter<W>) -> fmt::Result {
-        let layer = self.layer().name();
-        let number = self.number();
-        write!(f, "{layer} {number}")
+        write!(f, "{} {}", self.layer(), self.number())
     }
 }
 
@@ -83,14 +81,4 @@ impl From<BlockFault> for LineFault {
 pub struct FieldFault {
     pub field: u32,
     pub fault: LineFault,
-}
-
-// The same answer, with the field beside a fault.
-pub(crate) fn in_field<T>(field: u32, answer: Result<T, LineFault>) -> Result<T, FieldFault>
-    ensures { MatchResult result (λ x. answer ≡ Ok x) (λ found. (found.field ≡ field) × (answer ≡ Err found.fault)) }
-{
-    match answer {
-        Ok(x) => Ok(x),
-        Err(fault) => Err(FieldFault { field, fault }),
-    }
 }

@@ -4,10 +4,10 @@
 mod blocks;
 mod commands;
 mod fault;
+mod fields;
 mod frame;
 mod lines;
 mod reading;
-mod values;
 
 pub use crate::commands::{Command, CostKind};
 pub use crate::fault::{FieldFault, LineFault};

@@ -1,17 +1,19 @@
-use Rattle.std.proofs.Common.{rules}
-use Rattle.std.proofs.lemmas.Result.{err_from_is_err_and}
+use Rattle.std.proofs.Common.{◌≡◌, true, false, length, is_some, rules}
 use Rattle.jobtext.specs.Parts.{line_fields}
-use Rattle.command.proofs.FrameLaws.{place_refused, count_refused}
+use Rattle.command.specs.Lines.{grades_in, in_place, right_count, Begins, out_of_place, wrong_count}
 use Rattle.command.proofs.frame.frame.Goals as goal
 
-pub returns-in_err-check_place : goal.returns-in_err-check_place
-returns-in_err-check_place c =
-    let found = c.in_err-check_place.field-0.0 in
-    let p = err_from_is_err_and c.from_residual-in_err-check_place.result c.from_residual-in_err-check_place.ensures.1 in
-    rw (p.1, p.2) (place_refused c.args.job (line_fields c.args.line.now) c.in_ok-kind.kind found c.in_ok-kind.ensures c.in_err-check_place.ensures)
+pub returns-then-not-is_in_place : goal.returns-then-not-is_in_place
+returns-then-not-is_in_place c =
+    let kind = c.in_ok-kind.kind in
+    let begins : Begins (line_fields c.args.line.now) kind = c.in_ok-kind.ensures in
+    let out : in_place kind (is_some c.args.job) ≡ false = search rules in
+    search (rules, out_of_place)
 
-pub returns-in_err-check_count : goal.returns-in_err-check_count
-returns-in_err-check_count c =
-    let found = c.in_err-check_count.field-0.0 in
-    let p = err_from_is_err_and c.from_residual-in_err-check_count.result c.from_residual-in_err-check_count.ensures.1 in
-    rw (p.1, p.2) (count_refused c.args.job (line_fields c.args.line.now) c.in_ok-kind.kind found c.in_ok-kind.ensures (search rules) c.in_err-check_count.ensures)
+pub returns-then-not-is_right_count : goal.returns-then-not-is_right_count
+returns-then-not-is_right_count c =
+    let kind = c.in_ok-kind.kind in
+    let begins : Begins (line_fields c.args.line.now) kind = c.in_ok-kind.ensures in
+    let placed : in_place kind (is_some c.args.job) ≡ true = search rules in
+    let wrong : right_count kind (grades_in c.args.job) (length (line_fields c.args.line.now)) ≡ false = search rules in
+    search (rules, wrong_count)
