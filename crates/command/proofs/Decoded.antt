@@ -56,7 +56,7 @@ offer_back None good = refl
 offer_back (Some offer) good =
     let rate = number_back offer.rate good.0.0 in
     let distortion = number_back offer.distortion good.1.0 in
-    rw (number_first offer.rate good.0.0) (ap (λ r. Some (record { rate = r; distortion = digits_value 10 (decimal offer.distortion) })) rate ∙ ap (λ d. Some (record { rate = offer.rate; distortion = d })) distortion)
+    rw (number_first offer.rate good.0.0, rate, distortion)
 
 offers_from : List (List ℕ) → List (Option Offer)
 offers_from [] = []
@@ -67,7 +67,9 @@ offers_back : (offers : List (Option Offer)) → AllByRecursion GoodOffer offers
 unfolding offers_from
 offers_back [] good = refl
 offers_back (offer ∷ offers) good =
-    ap (λ one. one ∷ offers_from (pair_fields offers)) (offer_back offer good.0) ∙ ap (λ others. offer ∷ others) (offers_back offers good.1)
+    let one = offer_back offer good.0 in
+    let others = offers_back offers good.1 in
+    cc
 
 -- instructions
 asked_by : LineKind → List (List ℕ) → Instruction

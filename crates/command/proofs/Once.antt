@@ -25,9 +25,6 @@ use Rattle.command.proofs.PairLaws.{offer_meets, length_pairs}
 number_once : (field : List ℕ) (m n : ℕ) → Writes field m → Writes field n → m ≡ n
 number_once field m n w v = decimal_injective m n (omega (arith, w.0)) (omega (arith, v.0)) (sym w.1 ∙ v.1)
 
-by_once : (fault : TextFault) (l m : Layer) (a b : ℕ) → By fault l a → By fault m b → (l ≡ m) × (a ≡ b)
-by_once fault l m a b p q = (p.0 ∙ sym q.0, p.1 ∙ sym q.1)
-
 module _ (own-layer : Layer) (row : ℕ → Row) (field : List ℕ) where
   in_row : (n : ℕ) (l : Layer) (a : ℕ) → NumberIn row field n → NotNumberIn own-layer row field l a → ⊥
   in_row n l a number (inl h) = h.1 n number.0.0 number.0.1
@@ -35,7 +32,7 @@ module _ (own-layer : Layer) (row : ℕ → Row) (field : List ℕ) where
       let same = ap (λ k. first (row k)) (number_once field n h.1.0 number.0 h.1.1) in
       let none = number.1 in
       let some = h.1.2 in
-      let z : ◌≡◌ {A = ℕ} 0 1 = cc in omega arith
+      cc
 
   out_once : (l m : Layer) (a b : ℕ) → NotNumberIn own-layer row field l a → NotNumberIn own-layer row field m b → (l ≡ m) × (a ≡ b)
   out_once l m a b (inl p) (inl q) = (p.0.0 ∙ sym q.0.0, p.0.1 ∙ sym q.0.1)
@@ -141,7 +138,7 @@ module _ (job : Option ℕ) (fields : List (List ℕ)) where
     counted_not j k p q yes-here not-here = both_ways (right_count k (grades_in job) (length fields)) not-here (subst (λ i. right_count i (grades_in job) (length fields) ≡ true) (begins_once j k p q) yes-here)
 
     alike : (fault : TextFault) (at : ℕ) → f ≡ at → By fault l a → g ≡ at → By fault m b → (f ≡ g) × (l ≡ m) × (a ≡ b)
-    alike fault at p x q y = let same = by_once fault l m a b x y in (p ∙ sym q, same.0, same.1)
+    alike fault at p x q y = (p ∙ sym q, x.0 ∙ sym y.0, x.1 ∙ sym y.1)
 
     one_refusal : Refused job fields f l a → Refused job fields g m b → (f ≡ g) × (l ≡ m) × (a ≡ b)
     one_refusal (unknown_first p x none) (unknown_first q y nil) = alike UnknownFirst 1 p x q y

@@ -1,11 +1,10 @@
 -- One pair of fields after another. Assumes nothing.
-use Rattle.std.proofs.Common.{◌≡◌, ℕ, zero, suc, ◌+◌, ◌-◌, ◌*◌, ◌<◌, Bool, true, false, cond, eqb, ltb, List, [], ◌∷◌, ◌++◌, length, get_or, Some, None, Option, sym, refl, ap, ◌∙◌, subst, inl, inr, ⊎_elim, arith, length-append, ltb-false, eqb-true, le-leb}
+use Rattle.std.proofs.Common.{◌≡◌, ℕ, zero, suc, ◌+◌, ◌-◌, ◌*◌, ◌<◌, cond, eqb, List, [], ◌∷◌, ◌++◌, length, get_or, Some, None, Option, sym, refl, ap, ◌∙◌, subst, inl, inr, ⊎_elim, arith, length-append}
 use native.Mathlib.Nat.{sub-zero}
-use lib.Seq.{get_or-append_seam}
-use borrow.Author.Tests.{eqb-false}
 use Rattle.std.specs.List.{AllByRecursion}
-use Rattle.std.proofs.lemmas.List.{get_or_past, get_or_append_left}
-use Rattle.std.proofs.str.Laws.{order}
+use Rattle.std.proofs.lemmas.Bool.Decides.{nat_tests}
+use Rattle.std.proofs.lemmas.Grind.{common_steps}
+use Rattle.std.proofs.lemmas.List.{get_or_past}
 use Rattle.faults.specs.Refusals.{first}
 use Rattle.faults.specs.declared.layer.Layer.{Layer}
 use Rattle.offers.specs.Faults.{rate_row, distortion_row}
@@ -18,17 +17,9 @@ use Rattle.command.specs.Instructions.{rate_field, distortion_field, pair_fields
 use Rattle.command.specs.Pairs.{PairRead, OwnRead, StandAt}
 use Rattle.command.proofs.DashLaws.{not_dash}
 
--- a row of one case that answers none: the case does not hold
-pub case_not : (b : Bool) (n : ℕ) → cond b (Some n) None ≡ None → b ≡ false
-case_not true n e = let z : ◌≡◌ {A = ℕ} 0 1 = cc in absurd (omega arith)
-case_not false n e = refl
-
 -- the offer of two numbers in range
 offer_made : (rate distortion : ℕ) → first (rate_row rate) ≡ None → first (distortion_row distortion) ≡ None → offer_of rate distortion ≡ Some (record { rate = rate; distortion = distortion })
-offer_made rate distortion r d =
-    let low = ltb-false 65535 rate (case_not (ltb 65535 rate) 20 r) in
-    let soft = ltb-false 16777215 distortion (case_not (ltb 16777215 distortion) 21 d) in
-    rw (le-leb rate 65535 low) (rw (le-leb distortion 16777215 soft) refl)
+offer_made rate distortion r d = grind (arith, nat_tests)
 
 module _ (fields : List (List ℕ)) (k rate : ℕ) (number : NumberIn rate_row (get_or fields k []) rate) where
   pub pair_set : (distortion : ℕ) (before after : OwnBlock) (grade : ℕ) → NumberIn distortion_row (get_or fields (k + 1) []) distortion → OnlyAt before after grade (offer_of rate distortion) → PairRead fields k before after grade
@@ -45,17 +36,7 @@ module _ (fields : List (List ℕ)) (k rate : ℕ) (number : NumberIn rate_row (
 
 -- one more element
 snoc : {A : Type 0} (xs : List A) (x d : A) (k : ℕ) → cond (eqb k (length xs)) x (get_or xs k d) ≡ get_or (xs ++ x ∷ []) k d
-snoc {A} xs x d k =
-    let long = length-append xs (x ∷ []) in
-    let P : Bool → Type 0 = λ b. eqb k (length xs) ≡ b → cond b x (get_or xs k d) ≡ get_or (xs ++ x ∷ []) k d in
-    elim (eqb k (length xs)) as P [
-      | true ↦ λ e. sym (ap (λ i. get_or (xs ++ x ∷ []) i d) (eqb-true k (length xs) e) ∙ get_or-append_seam xs x [] d)
-      | false ↦ λ e.
-          ⊎_elim
-          (λ lt. sym (get_or_append_left xs (x ∷ []) d k lt))
-          (λ ge. get_or_past xs k d ge ∙ sym (get_or_past (xs ++ x ∷ []) k d (let apart : k ≡ length xs → ⊥ = eqb-false k (length xs) e in omega arith)))
-          (order k (length xs))
-    ] refl
+snoc xs x d k = grind (arith, common_steps)
 
 every_more : {A : Type 0} (P : A → Type 0) (xs : List A) (x : A) → AllByRecursion P xs → P x → AllByRecursion P (xs ++ x ∷ [])
 every_more P [] x h p = (p, tt)

@@ -1,7 +1,5 @@
-use Rattle.std.proofs.Common.{arith}
-use Rattle.std.proofs.lemmas.Result.{err_from_is_err_and}
+use Rattle.std.proofs.Common.{arith, rules}
 use Rattle.jobtext.specs.Parts.{line_fields}
-use Rattle.command.specs.Faults.{fault_number, fault_layer}
 use Rattle.command.proofs.PairLaws.{sofar_none, sofar_free, sofar_fails, sofar_more}
 use Rattle.command.proofs.blocks.own_block.Goals as goal
 
@@ -16,8 +14,4 @@ loop-grade-preserved c =
     sofar_more (line_fields c.args.line.now) c.args.grades c.loop-grade.grade c.loop-grade.block c.loop-grade.invariant c.loop-grade-test.true c.read_pair.new.block c.in_ok-read_pair.ensures
 
 pub returns-in_err-read_pair : goal.returns-in_err-read_pair
-returns-in_err-read_pair c =
-    let found = c.in_err-read_pair.field-0.0 in
-    let p = err_from_is_err_and c.from_residual.result c.from_residual.ensures.1 in
-    rw (p.1, p.2)
-    (sofar_fails (line_fields c.args.line.now) c.args.grades c.loop-grade.grade c.loop-grade.block c.loop-grade.invariant c.loop-grade-test.true found.field (fault_layer found.fault) (fault_number found.fault) c.in_err-read_pair.ensures)
+returns-in_err-read_pair c = search (rules, sofar_fails (line_fields c.args.line.now) c.args.grades c.loop-grade.grade c.loop-grade.block c.loop-grade.invariant c.loop-grade-test.true)
