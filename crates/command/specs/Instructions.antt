@@ -8,8 +8,8 @@ use Rattle.offers.specs.Faults.{weight_row, extra_row, samples_row, gain_row, ra
 use Rattle.offers.specs.Gain.{gain_means}
 use Rattle.offers.specs.Levels.{levels, profile, rate_of}
 use Rattle.offers.specs.Own.{own_means}
-use Rattle.offers.specs.declared.either.Either.{Either}
-use Rattle.offers.specs.declared.either.Either.TheVariants.{Left, Right}
+use Rattle.either.specs.declared.Either.{Either}
+use Rattle.either.specs.declared.Either.TheVariants.{Left, Right}
 use Rattle.offers.specs.declared.gain.GainBlock.{GainBlock}
 use Rattle.offers.specs.declared.offer.Offer.{Offer}
 use Rattle.offers.specs.declared.own.OwnBlock.{OwnBlock}
