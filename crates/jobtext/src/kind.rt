@@ -18,7 +18,7 @@ pub enum LineKind {
     Fewest,
 }
 
-// The kind of line that a letter begins.
+// The kind of line that a letter begins. (A table of letters with no other parameter: the form was asked for.)
 pub fn line_kind(letter: char) -> Option<LineKind>
     ensures { MatchOption result ((kind : LineKind) → letter ≢ kind_letter kind) (λ kind. letter ≡ kind_letter kind) }
 {

@@ -35,7 +35,8 @@ fn write_row<K: Kind>(
     }
 }
 
-// Writes the column of a new block, which lies first, by the stage of the block before, where there is one.
+// Writes the column of a new block, which lies first, by the stage of the block before, where there is one. (Rows by index, as
+// nothing is known of what is written through `chunks_exact_mut`.)
 fn write_column<K: Kind>(
     terms: &Terms,
     prior: &Option<Stage<K>>,

@@ -78,10 +78,8 @@ impl<'a, K: Kind> Planner<'a, K> {
         ensures places { self.new.places.now ≡ self.old.places.now }
         ensures same { self.new.places.ghost_name ≡ self.old.places.ghost_name }
     {
-        match self.tables.blocks.pop() {
-            Some(_) => Ok(()),
-            None => Err(PlannerFault::NoBlock),
-        }
+        self.tables.blocks.pop().ok_or(PlannerFault::NoBlock)?;
+        Ok(())
     }
 
     // The plan for a budget: its bits and its cost, and its grades in the first entries of the list.

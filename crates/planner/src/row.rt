@@ -20,7 +20,8 @@ pub(crate) fn clear_row<K: Kind>(row: &mut [Place<K>])
     }
 }
 
-// Relaxes a row by the row of one earlier grade, whose places lie `step` bits lower.
+// Relaxes a row by the row of one earlier grade, whose places lie `step` bits lower. (By index: of what is written through `zip`
+// over `iter_mut` a proof knows nothing.)
 fn relax_row<K: Kind>(row: &mut [Place<K>], earlier: &[Place<K>], step: usize, distortion: u32)
     requires { length earlier.now ≡ length row.old }
     ensures before { (k : ℕ) → k < step → slice_index_or row.new k (unreached K.Kind.model) ≡ slice_index_or row.old k (unreached K.Kind.model) }

@@ -19,7 +19,7 @@ fn better<K: Kind>(best: Option<End<K>>, new: End<K>) -> Option<End<K>>
 }
 
 impl<'a, K: Kind> Stage<'a, K> {
-    // The fewest bits at which a place is reached and within the bound.
+    // The fewest bits at which a place is reached and within the bound. (Two loops that a label leaves: the form was asked for.)
     pub(crate) fn first_within(&self, bound: K) -> Option<u32>
         ensures { FirstWithin K.Kind.model self.now.terms.now self.now.places.now bound result }
     {
@@ -70,7 +70,7 @@ impl<'a, K: Kind> Stage<'a, K> {
         cost.join(offer.distortion()).no_dearer(end.cost)
     }
 
-    // The lowest earlier grade whose place leads to the end.
+    // The lowest earlier grade whose place leads to the end. (A loop: of `find` over the grades the proof did not close.)
     pub(crate) fn grade_before(&self, end: End<K>, offer: Offer) -> Option<u8>
         requires grade { end.grade < self.now.terms.now.grades }
         requires bits { end.bits ≤ self.now.terms.now.ceiling }

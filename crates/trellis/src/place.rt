@@ -4,7 +4,8 @@ ghost use Rattle.trellis.specs.Places.{unreached, relaxed};
 
 use costs::Kind;
 
-// Reached where some choice ends there, and then with the least cost of such choices.
+// Reached where some choice ends there, and then with the least cost of such choices. A record and no Option, as the form was
+// asked for: it lies in lent memory, and where it is not reached it holds the start value.
 #[derive(Clone, Copy, PartialEq, Eq, Debug)]
 pub struct Place<K> {
     pub reached: bool,
