@@ -1,5 +1,7 @@
 // What the places and the grade list hold after each call, and after a refused one.
-use crate::steps::{Offers, Step, open_and_follow, reached};
+use crate::steps::{CLEAR, Offers, Step, open_and_follow, reached};
+use costs::Total;
+use std::process::Abort;
 use std::test::Fail;
 use terms::Terms;
 use trellis::Place;
@@ -10,15 +12,14 @@ const FIRST: Offers = [Some((1, 9)), Some((4, 1))];
 
 const SECOND: Offers = [Some((2, 5)), Some((1, 6))];
 
+fn follow_in(rt: &impl Abort, places: &mut [Place<Total>], steps: &[Step]) -> Result<(), Fail> {
+    open_and_follow(rt, Terms::flat(2, 4, 1), places, steps)
+}
+
 #[test]
 fn places_lie_by_block_and_grade_and_bits(rt: HostRuntime) -> Result<(), Fail> {
     let mut places = [reached(77); 25];
-    open_and_follow(
-        &rt,
-        Terms::flat(2, 4, 1),
-        &mut places,
-        &[Step::Add(FIRST), Step::Add(SECOND)],
-    )?;
+    follow_in(&rt, &mut places, &[Step::Add(FIRST), Step::Add(SECOND)])?;
     for (k, place) in places.into_iter().enumerate() {
         let expected = match k {
             1 => reached(9),
@@ -26,7 +27,7 @@ fn places_lie_by_block_and_grade_and_bits(rt: HostRuntime) -> Result<(), Fail> {
             13 => reached(14),
             18 => reached(15),
             20..=24 => reached(77),
-            _ => Place::unreached(),
+            _ => CLEAR,
         };
         assert_eq!(rt; place, expected);
     }
@@ -37,9 +38,8 @@ fn places_lie_by_block_and_grade_and_bits(rt: HostRuntime) -> Result<(), Fail> {
 #[test]
 fn an_unreached_place_holds_the_start_value(rt: HostRuntime) -> Result<(), Fail> {
     let mut places = [reached(77); 20];
-    open_and_follow(
+    follow_in(
         &rt,
-        Terms::flat(2, 4, 1),
         &mut places,
         &[
             Step::Add([Some((5, 3)), None]),
@@ -47,7 +47,7 @@ fn an_unreached_place_holds_the_start_value(rt: HostRuntime) -> Result<(), Fail>
         ],
     )?;
     for place in places {
-        assert_eq!(rt; place, Place::unreached());
+        assert_eq!(rt; place, CLEAR);
     }
     Ok(())
 }
@@ -56,16 +56,14 @@ fn an_unreached_place_holds_the_start_value(rt: HostRuntime) -> Result<(), Fail>
 #[test]
 fn only_an_add_writes_places(rt: HostRuntime) -> Result<(), Fail> {
     let mut undisturbed = [reached(77); 25];
-    open_and_follow(
+    follow_in(
         &rt,
-        Terms::flat(2, 4, 1),
         &mut undisturbed,
         &[Step::Add(FIRST), Step::Add(SECOND)],
     )?;
     let mut places = [reached(77); 25];
-    open_and_follow(
+    follow_in(
         &rt,
-        Terms::flat(2, 4, 1),
         &mut places,
         &[
             Step::TakeBackRefused(32),
@@ -93,16 +91,10 @@ fn only_an_add_writes_places(rt: HostRuntime) -> Result<(), Fail> {
 #[test]
 fn another_block_takes_the_places_of_one_taken_back(rt: HostRuntime) -> Result<(), Fail> {
     let mut straight = [reached(77); 25];
-    open_and_follow(
-        &rt,
-        Terms::flat(2, 4, 1),
-        &mut straight,
-        &[Step::Add(FIRST), Step::Add(SECOND)],
-    )?;
+    follow_in(&rt, &mut straight, &[Step::Add(FIRST), Step::Add(SECOND)])?;
     let mut places = [reached(77); 25];
-    open_and_follow(
+    follow_in(
         &rt,
-        Terms::flat(2, 4, 1),
         &mut places,
         &[
             Step::Add(FIRST),

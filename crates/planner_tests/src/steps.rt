@@ -93,6 +93,12 @@ pub(crate) fn open_and_follow<K: Plain>(
     follow(rt, &mut planner, steps)
 }
 
+// A place that no choice reaches, with the start value in it.
+pub(crate) const CLEAR: Place<Total> = Place {
+    reached: false,
+    cost: Total(0),
+};
+
 // A place that some choice reaches at this total.
 pub(crate) fn reached(total: u32) -> Place<Total> {
     Place {
