@@ -1,57 +1,55 @@
--- The lines of an open job, from one to the next. Assumes nothing.
-use Rattle.std.proofs.Common.{◌≡◌, ℕ, ◌+◌, List, [], ◌∷◌, ◌++◌, length, sym, refl, ◌∙◌, subst, arith}
+-- From one line to the next. Assumes nothing.
+use Rattle.std.proofs.Common.{◌≡◌, ℕ, ◌+◌, List, [], ◌∷◌, ◌++◌, None, Result, sym, ap, ◌∙◌, subst, append_assoc, append-nil}
+use Rattle.std.specs.Result.{OnOk}
+use Rattle.std.proofs.lemmas.Result.{on_ok_weaker}
 use Rattle.terms.specs.declared.terms.Terms.{Terms}
-use Rattle.terms.specs.Choice.{Block}
-use Rattle.trellis.specs.declared.place.Place.{Place}
-use Rattle.planner.specs.declared.tables.Tables.{Tables}
-use Rattle.planner.specs.Standing.{standing_blocks, Sound}
+use Rattle.jobtext.specs.Parts.{line_fields}
+use Rattle.command.specs.declared.commands.Command.{Command}
+use Rattle.command.specs.declared.commands.Command.TheVariants.{Open}
+use Rattle.command.specs.Lines.{Accepted, Commands}
+use Rattle.jobtext.specs.Lines.{unread}
 use Rattle.command.specs.declared.commands.CostKind.{CostKind}
 use Rattle.command.specs.Instructions.{FlatCharge}
-use Rattle.job.specs.Replies.{Said, said_text}
-use Rattle.job.specs.Transcript.{Pricing, State, busy, Step, Transcript}
+use Rattle.job.specs.declared.numbered.NumberedLines.{NumberedLines}
+use Rattle.job.specs.Replies.{Said, nothing_said, said_text}
+use Rattle.job.specs.Transcript.{State, idle, busy, Step}
+use Rattle.job.specs.Transcript.Step.{opened}
 use Rattle.job.specs.Transcript.Transcript.{ended, next}
-use Rattle.job.specs.Steps.{Means, state_of, Stepped, Grown}
-use Rattle.job.proofs.Thens.{Then, then_start, then_more, then_done}
+use Rattle.job.specs.Steps.{Job, Kept, state_of, Stepped, AnswersTo, Grown}
 
-module _ {V : Type 0} (p : Pricing V) (terms : Terms) (lent first : ℕ) (all : List (List ℕ)) (before : List ℕ) where
-  abbrev at : CostKind → ℕ → List Block → State
-  at kind charge blocks = busy kind terms.grades terms.ceiling charge blocks
+-- the first of the lines, and the others
+abbrev pub Starts : NumberedLines → (number : ℕ) (line : List ℕ) → NumberedLines → Type 0
+Starts lines number line rest = (number ≡ lines.read + 1) × (rest.read ≡ lines.read + 1) × (unread lines.lines ≡ line ∷ unread rest.lines)
 
-  abbrev Whole : CostKind → ℕ → List ℕ → Type 0
-  Whole kind charge = Transcript lent (at kind charge []) (first + 1) all
+-- no line is left
+pub no_more : (lent : ℕ) (s : State) (lines : NumberedLines) (out : List ℕ) → unread lines.lines ≡ [] → Grown out out (AnswersTo lent s lines)
+no_more lent s lines out none = record { said = []; whole = sym (append-nil out); right = rw none ended }
 
-  -- after line `number`, with the lines of `rest` still to come
-  pub record Going (tables : Tables) (places : List (Place V)) (number : ℕ) (rest : List (List ℕ)) (out : List ℕ) : Type 0 where
-    pub terms_are : tables.terms ≡ terms
-    pub lent_are : length places ≡ lent
-    pub sound : Sound p.model tables places
-    pub count : number + length rest ≡ first + length all
-    pub so_far : (kind : CostKind) (charge : ℕ) → Means kind p → FlatCharge charge terms → Then before out (Transcript lent (at kind charge (standing_blocks tables)) (number + 1) rest) (Whole kind charge)
+-- one line was answered, and then the others
+pub one_more : (lent : ℕ) (s t : State) (lines rest : NumberedLines) (number : ℕ) (line : List ℕ) (said : Said) (out more end : List ℕ) → Starts lines number line rest → Step lent s line t said → more ≡ out ++ said_text number said → Grown more end (AnswersTo lent t rest) → Grown out end (AnswersTo lent s lines)
+one_more lent s t lines rest number line said out more end starts step grown g = record {
+  said = said_text (lines.read + 1) said ++ g.said;
+  whole = g.whole ∙ ap (λ l. l ++ g.said) grown ∙ append_assoc out (said_text number said) g.said ∙ ap (λ n. out ++ (said_text n said ++ g.said)) starts.0;
+  right = rw starts.2 (next step (rw starts.1 at g.right));
+}
 
-  pub going_first : (tables : Tables) (places : List (Place V)) → tables.terms ≡ terms → length places ≡ lent → Sound p.model tables places → standing_blocks tables ≡ [] → Going tables places first all before
-  going_first tables places t l s none = record {
-    terms_are = t;
-    lent_are = l;
-    sound = s;
-    count = refl;
-    so_far = λ kind charge m flat. subst (λ bs. Then before before (Transcript lent (at kind charge bs) (first + 1) all) (Whole kind charge)) (sym none) (then_start before (Whole kind charge));
+-- the line opened a job, and the others were answered under it
+pub opens : {E : Type 0} (r : Result (Unit {0}) E) (lent : ℕ) (lines rest : NumberedLines) (number : ℕ) (line : List ℕ) (kind : CostKind) (terms : Terms) (command : Command) (out end : List ℕ) → Starts lines number line rest → command ≡ Open kind terms → Commands None (line_fields line) command → ((charge : ℕ) → FlatCharge charge terms → OnOk r (Grown out end (AnswersTo lent (busy kind terms.grades terms.ceiling charge []) rest))) → OnOk r (Grown out end (AnswersTo lent idle lines))
+opens r lent lines rest number line kind terms command out end starts is read answered =
+    let c = subst (Commands None (line_fields line)) is read in
+    let accepted = subst (Accepted None (line_fields line)) c.2.1 c.1 in
+    on_ok_weaker r (one_more lent idle _ lines rest number line nothing_said out out end starts (opened accepted) (sym (append-nil out))) (answered c.2.0 c.2.2)
+
+module _ (kind : CostKind) (first : Job) (lines : NumberedLines) (before : List ℕ) where
+  -- the job after some lines, the lines that are left and the output so far: whatever answers them, answers all
+  pub record Going (job : Job) (left : NumberedLines) (out : List ℕ) : Type 0 where
+    pub kept : Kept first job
+    pub all : (charge : ℕ) (end : List ℕ) → FlatCharge charge first.terms → Grown out end (AnswersTo first.lent (state_of kind charge job) left) → Grown before end (AnswersTo first.lent (state_of kind charge first) lines)
+
+  pub going_on : (old new : Job) (left rest : NumberedLines) (number : ℕ) (line : List ℕ) (said : Said) (out more : List ℕ) → Starts left number line rest → Stepped kind old new line said → more ≡ out ++ said_text number said → Going old left out → Going new rest more
+  going_on old new left rest number line said out more starts stepped grown g = record {
+    kept = record { terms = stepped.kept.terms ∙ g.kept.terms; lent = stepped.kept.lent ∙ g.kept.lent };
+    all = λ charge end flat h.
+        let step = rw g.kept.lent at (stepped.step charge (rw g.kept.terms flat)) in
+        g.all charge end flat (one_more first.lent (state_of kind charge old) (state_of kind charge new) left rest number line said out more end starts step grown h);
   }
-
-  pub going_on : (old new : Tables) (ps qs : List (Place V)) (number : ℕ) (line : List ℕ) (rest : List (List ℕ)) (out more : List ℕ) (said : Said) → Stepped p old new ps qs line said → more ≡ out ++ said_text (number + 1) said → Going old ps number (line ∷ rest) out → Going new qs (number + 1) rest more
-  going_on old new ps qs number line rest out more said stepped e g =
-      let same : new.terms ≡ terms = stepped.goes.terms ∙ g.terms_are in
-      record {
-        terms_are = same;
-        lent_are = stepped.goes.long ∙ g.lent_are;
-        sound = stepped.goes.sound;
-        count = omega (arith, g.count);
-        so_far = λ kind charge m flat.
-            let step : Step lent (at kind charge (standing_blocks old)) line (at kind charge (standing_blocks new)) said =
-            subst (λ t. Step lent (at kind charge (standing_blocks old)) line (busy kind t.grades t.ceiling charge (standing_blocks new)) said) same
-            (subst (λ t. Step lent (busy kind t.grades t.ceiling charge (standing_blocks old)) line (state_of kind charge new) said) g.terms_are
-            (subst (λ n. Step n (state_of kind charge old) line (state_of kind charge new) said) g.lent_are (stepped.step kind charge m (subst (FlatCharge charge) (sym g.terms_are) flat)))) in
-            then_more before out more (Transcript lent (at kind charge (standing_blocks old)) (number + 1) (line ∷ rest)) (Whole kind charge) (g.so_far kind charge m flat) (said_text (number + 1) said) (Transcript lent (at kind charge (standing_blocks new)) (number + 1 + 1) rest) e (λ x n. next step n);
-      }
-
-  pub going_last : (tables : Tables) (places : List (Place V)) (number : ℕ) (out : List ℕ) → Going tables places number [] out → (kind : CostKind) (charge : ℕ) → Means kind p → FlatCharge charge terms → Grown before out (Whole kind charge)
-  going_last tables places number out g kind charge m flat = then_done before out (Transcript lent (at kind charge (standing_blocks tables)) (number + 1) []) (Whole kind charge) (g.so_far kind charge m flat) ended

@@ -1,8 +1,5 @@
 pub mod Obeys
-pub mod Stepping
 pub mod Saying
-pub mod Thens
+pub mod Stepping
 pub mod Going
-pub mod Waits
-pub mod KindLaws
 pub mod Onlys

@@ -1,5 +1,5 @@
 -- The field, the layer and the number of a job's fault, and what is said by a reply. Assumes nothing.
-use Rattle.std.specs.Prelude.{ℕ, take, Ok, Err, Result}
+use Rattle.std.specs.Prelude.{ℕ, Ok, Err, Result}
 use Rattle.faults.specs.declared.Layer.{Layer}
 use Rattle.planner.specs.Faults.{planner_number, planner_layer}
 use Rattle.command.specs.Faults.{fault_number, fault_layer}
@@ -23,7 +23,7 @@ job_number (fault.Planner found) = planner_number found
 
 abbrev pub reply_said : Reply → Said
 reply_said reply.Nothing = nothing_said
-reply_said (reply.Plan budget bits cost grades) = plan_said budget bits cost (take grades.count grades.list)
+reply_said (reply.Plan budget bits cost grades) = plan_said budget bits cost grades.list.items
 reply_said (reply.Bits bound bits) = bits_said bound bits
 
 abbrev pub said_by : Result Reply JobFault → Said

@@ -1,18 +1,18 @@
 // A whole job text to all its answer lines.
-ghost use Rattle.std.specs.Prelude.{ℕ, ◌+◌, ◌^◌, ◌<◌, ◌≤◌, [], length, IfOk, OnOk};
-ghost use Rattle.jobtext.specs.Lines.{unread};
+ghost use Rattle.std.specs.Prelude.{ℕ, ◌≤◌, [], length, IfOk, OnOk};
 ghost use Rattle.jobtext.specs.Parts.{text_lines};
 ghost use Rattle.command.specs.Instructions.{FlatCharge};
 ghost use Rattle.job.specs.Transcript.{idle, busy, Transcript, Output, OneOutput};
-ghost use Rattle.job.specs.Steps.{Grown};
+ghost use Rattle.job.specs.Steps.{AnswersTo, Grown};
 
 use crate::fault::JobFault;
-use crate::lines::run_lines;
-use crate::reply::Reply;
+use crate::kind::JobKind;
+use crate::numbered::NumberedLines;
+use crate::open_job::OpenJob;
 use crate::say::say;
 use command::{Command, CostKind, FieldFault, LineFault, read_command};
 use costs::{Total, Worst};
-use jobtext::{Lines, TextFault};
+use jobtext::TextFault;
 use std::alloc::{AllocError, Global};
 use terms::Terms;
 use trellis::Place;
@@ -20,64 +20,54 @@ use trellis::Place;
 // The longest text that is read.
 pub const LONGEST_TEXT: usize = 32768;
 
-// Answers the lines after the one that opened a job, by the job's kind of cost.
-fn run_job(
+// Opens a job of a kind and answers the lines that are left.
+fn answer_job<K: JobKind>(
     heap: Global,
-    kind: CostKind,
-    terms: Terms,
-    lines: Lines,
-    read: u32,
     places: usize,
+    terms: Terms,
+    lines: NumberedLines,
     out: &mut Vec<u8>,
 ) -> Result<(), AllocError>
-    requires { read + length (unread lines) < 2 ^ 32 }
-    ensures { (charge : ℕ) → FlatCharge charge terms → OnOk result (Grown out.old.items out.new.items (Transcript places (busy kind terms.grades terms.ceiling charge []) (read + 1) (unread lines.entry))) }
+    ensures { (charge : ℕ) → FlatCharge charge terms → OnOk result (Grown out.old.items out.new.items (AnswersTo places (busy K.name terms.grades terms.ceiling charge []) lines.entry)) }
 {
-    match kind {
-        CostKind::Total => {
-            let mut lent = vec![in heap; Place {
-                reached: false,
-                cost: Total(0)
-            }; places]?;
-            run_lines(lines, read, terms, &mut lent, out)
-        }
-        CostKind::Worst => {
-            let mut lent = vec![in heap; Place {
-                reached: false,
-                cost: Worst(0)
-            }; places]?;
-            run_lines(lines, read, terms, &mut lent, out)
-        }
+    let mut lent = vec![in heap; Place::<K>::unreached(); places]?;
+    let mut job = OpenJob::open(terms, &mut lent);
+    for (number, line) in lines {
+        let answer = job.respond(line);
+        say(out, number, answer)?;
     }
+    Ok(())
 }
 
 // Answers the lines of a text that is not too long.
 fn answer_lines(
     heap: Global,
-    text: &[u8],
     places: usize,
+    text: &[u8],
     out: &mut Vec<u8>,
 ) -> Result<(), AllocError>
     requires { length text.now ≤ 32768 }
     ensures { OnOk result (Grown out.old.items out.new.items (Transcript places idle 1 (text_lines text.now))) }
 {
-    let mut lines = Lines::of(text);
-    let mut number = 0;
-    while let Some(line) = lines.next() {
-        number += 1;
+    let mut lines = NumberedLines::of(text);
+    while let Some((number, line)) = lines.next() {
         if line.is_empty() {
             continue;
         }
         match read_command(line, None) {
-            Ok(command) => match command {
-                Command::Open { kind, terms } => {
-                    return run_job(heap, kind, terms, lines, number, places, out);
-                }
-                Command::Add { .. } => unreachable(),
-                Command::TakeBack => unreachable(),
-                Command::Plan(_) => unreachable(),
-                Command::Fewest(_) => unreachable(),
-            },
+            Ok(
+                Command::Open {
+                    kind: CostKind::Total,
+                    terms,
+                },
+            ) => return answer_job::<Total>(heap, places, terms, lines, out),
+            Ok(
+                Command::Open {
+                    kind: CostKind::Worst,
+                    terms,
+                },
+            ) => return answer_job::<Worst>(heap, places, terms, lines, out),
+            Ok(_) => unreachable(),
             Err(fault) => say(out, number, Err(JobFault::Line(fault)))?,
         }
     }
@@ -87,8 +77,8 @@ fn answer_lines(
 // Answers a text: by its lines, or by one fault where it is too long, and then no line is read.
 fn answer_into(
     heap: Global,
-    text: &[u8],
     places: usize,
+    text: &[u8],
     out: &mut Vec<u8>,
 ) -> Result<(), AllocError>
     ensures { OnOk result (Grown out.old.items out.new.items (Output places text.now)) }
@@ -97,7 +87,7 @@ fn answer_into(
         let fault = LineFault::Text(TextFault::TooLong);
         return say(out, 0, Err(JobFault::Line(FieldFault { field: 0, fault })));
     }
-    answer_lines(heap, text, places, out)
+    answer_lines(heap, places, text, out)
 }
 
 // The answer lines to a whole job text, planned in so many places. The only other outcome is want of memory. `once`: no text
@@ -107,6 +97,6 @@ pub fn answer_text(heap: Global, text: &[u8], places: usize) -> Result<Vec<u8>, 
     ensures once { OneOutput }
 {
     let mut out = Vec::new(heap);
-    answer_into(heap, text, places, &mut out)?;
+    answer_into(heap, places, text, &mut out)?;
     Ok(out)
 }

@@ -4,7 +4,7 @@ ghost use Rattle.job.specs.declared.fault.JobFault.TheVariants.{Line, Planner};
 ghost use Rattle.job.specs.Faults.{job_field, job_layer, job_number};
 
 use command::FieldFault;
-use faults::Layer;
+use faults::{Fault, Layer};
 use planner::PlannerFault;
 
 #[derive(Clone, Copy)]
@@ -24,19 +24,21 @@ impl JobFault {
             JobFault::Planner(_) => 0,
         }
     }
+}
 
-    pub(crate) fn layer(self) -> Layer
-        ensures { result ≡ job_layer self }
-    {
+impl Fault for JobFault {
+    ghost layers = { job_layer };
+
+    ghost numbers = { job_number };
+
+    fn layer(self) -> Layer {
         match self {
             JobFault::Line(found) => found.fault.layer(),
             JobFault::Planner(fault) => fault.layer(),
         }
     }
 
-    pub(crate) fn number(self) -> u32
-        ensures { result ≡ job_number self }
-    {
+    fn number(self) -> u32 {
         match self {
             JobFault::Line(found) => found.fault.number(),
             JobFault::Planner(fault) => fault.number(),

@@ -3,9 +3,9 @@
 
 mod answer;
 mod fault;
-mod lines;
-mod obey;
-mod priced;
+mod kind;
+mod numbered;
+mod open_job;
 mod reply;
 mod say;
 

@@ -1,17 +1,17 @@
 // What a line is answered with.
-ghost use Rattle.std.specs.Prelude.{◌≡◌, ℕ, ◌<◌, ◌≤◌, length, slice_index};
+ghost use Rattle.std.specs.Prelude.{◌<◌};
+ghost use Rattle.std.specs.List.{All};
 
-// The grades of a plan, first block first: the first `count` entries of the list.
-#[derive(Clone, Copy)]
+use arrayvec::ArrayVec;
+
+// The grades of a plan, first block first.
+#[derive(Drop)]
 pub(crate) struct PlanGrades {
-    pub(crate) list: [u8; 64],
-    pub(crate) count: usize,
-    ghost long: { length list ≡ 64 },
-    ghost few: { count ≤ 64 },
-    ghost low: { (k : ℕ) → k < count → slice_index list k < 100 },
+    pub(crate) list: ArrayVec<u8, 64>,
+    ghost low: { All (λ grade. grade < 100) list.items },
 }
 
-#[derive(Clone, Copy)]
+#[derive(Drop)]
 pub(crate) enum Reply {
     Nothing,
     Plan {
