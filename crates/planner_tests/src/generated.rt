@@ -102,15 +102,15 @@ fn photograph_holds<K: Plain>(
     let first = |count| Blocks { photograph, count };
     let mut planner = Planner::open(photograph.terms()?, places);
     answers_hold(rt, first(0), &planner)?;
-    for n in 0..photograph.blocks {
+    for n in 0..photograph.blocks() {
         planner.add(&photograph.block(n)?)?;
         answers_hold(rt, first(n.saturating_add(1)), &planner)?;
     }
-    let last = photograph.blocks.saturating_sub(1);
+    let last = photograph.blocks().saturating_sub(1);
     planner.take_back()?;
     answers_hold(rt, first(last), &planner)?;
     planner.add(&photograph.block(last)?)?;
-    answers_hold(rt, first(photograph.blocks), &planner)
+    answers_hold(rt, first(photograph.blocks()), &planner)
 }
 
 // A few hundred photographs, one after the other. The places keep what the photograph before left in them.

@@ -1,6 +1,7 @@
 // Small photographs in plain numbers, made by a generator, and the terms and blocks of those numbers.
 ghost use Rattle.std.specs.Prelude.{◌≤◌};
 
+use arrayvec::ArrayVec;
 use offers::{BlockFault, OwnBlock};
 use terms::{Terms, TermsFault};
 
@@ -30,13 +31,12 @@ impl Dice {
 
 // At most 4 blocks of at most 4 grades: the rate and the distortion of each block at each grade, and the charge from each grade
 // to each.
-#[derive(Clone, Copy)]
+#[derive(Drop)]
 pub(crate) struct Photograph {
     pub(crate) grades: u32,
     pub(crate) ceiling: u32,
-    pub(crate) blocks: usize,
-    pub(crate) charges: [[u32; 4]; 4],
-    pub(crate) offers: [[Option<(u32, u32)>; 4]; 4],
+    charges: [[u32; 4]; 4],
+    offers: ArrayVec<[Option<(u32, u32)>; 4], 4>,
 }
 
 // Charges of 0 to 4, one for each direction.
@@ -77,13 +77,23 @@ fn any_offers(dice: &mut Dice) -> [[Option<(u32, u32)>; 4]; 4] {
 impl Photograph {
     // 1 to 4 grades, a ceiling of 0 to 30, 1 to 4 blocks.
     pub(crate) fn any(dice: &mut Dice) -> Photograph {
+        let grades = dice.roll(4) + 1;
+        let ceiling = dice.roll(31);
+        let blocks = dice.roll(4) as usize + 1;
+        let charges = any_charges(dice);
+        let mut offers = ArrayVec::from(any_offers(dice));
+        offers.truncate(blocks);
         Photograph {
-            grades: dice.roll(4) + 1,
-            ceiling: dice.roll(31),
-            blocks: dice.roll(4) as usize + 1,
-            charges: any_charges(dice),
-            offers: any_offers(dice),
+            grades,
+            ceiling,
+            charges,
+            offers,
         }
+    }
+
+    // How many blocks it has.
+    pub(crate) fn blocks(&self) -> usize {
+        self.offers.len()
     }
 
     // What a block offers at a grade below the number of grades.
