@@ -55,18 +55,12 @@ fn answer_lines(
             continue;
         }
         match read_command(line, None) {
-            Ok(
-                Command::Open {
-                    kind: CostKind::Total,
-                    terms,
-                },
-            ) => return answer_job::<Total>(heap, places, terms, lines, out),
-            Ok(
-                Command::Open {
-                    kind: CostKind::Worst,
-                    terms,
-                },
-            ) => return answer_job::<Worst>(heap, places, terms, lines, out),
+            Ok(Command::Open { kind, terms }) => {
+                return match kind {
+                    CostKind::Total => answer_job::<Total>(heap, places, terms, lines, out),
+                    CostKind::Worst => answer_job::<Worst>(heap, places, terms, lines, out),
+                };
+            }
             Ok(_) => unreachable(),
             Err(fault) => say(out, number, Err(JobFault::Line(fault)))?,
         }

@@ -3,7 +3,9 @@
 // with it.
 #![tactic(auto)]
 
-use anyhow::anyhow;
+ghost use Rattle.std.specs.Prelude.{◌<◌, length, IfSome};
+
+use anyhow::Context;
 use job::answer_text;
 use jobtext::{field, number};
 use std::io::{Read, Write};
@@ -11,43 +13,39 @@ use std::io::{Read, Write};
 // The places that each job is planned in.
 const PLACES: usize = 4096;
 
-// A part of a job, and what stands after it.
+// A part of a job.
 #[derive(Clone, Copy)]
 struct Part<'a> {
     name: &'a [u8],
     bytes: &'a [u8],
     times: u32,
-    rest: &'a [u8],
 }
 
 // The first line, and what stands after its line feed.
-fn first_line(bytes: &[u8]) -> Option<(&[u8], &[u8])> {
-    for (i, byte) in bytes.iter().enumerate() {
-        if *byte == b'\n' {
-            return Some((&bytes[0..i], &bytes[i + 1..]));
-        }
-    }
-    None
+fn first_line(bytes: &[u8]) -> Option<(&[u8], &[u8])>
+    ensures { IfSome result (λ r. length r.1.now < length bytes.now) }
+{
+    let end = bytes.iter().position(|byte| *byte == b'\n')?;
+    Some((&bytes[..end], &bytes[end + 1..]))
 }
 
 fn number_in(line: &[u8], index: usize) -> Option<u32> {
     number(field(line, index)?)
 }
 
-fn next_part(input: &[u8]) -> Option<Part<'_>> {
+// The first part, and what stands after it.
+fn next_part(input: &[u8]) -> Option<(Part<'_>, &[u8])>
+    ensures { IfSome result (λ r. length r.1.now < length input.now) }
+{
     let (line, after) = first_line(input)?;
-    let name = field(line, 0)?;
     let long = number_in(line, 1)? as usize;
-    let times = number_in(line, 2)?;
-    if long > after.len() {
-        return None;
-    }
-    Some(Part {
-        name,
-        bytes: &after[0..long],
-        times,
-        rest: &after[long..],
-    })
+    let (bytes, rest) = after.split_at_checked(long)?;
+    let part = Part {
+        name: field(line, 0)?,
+        bytes,
+        times: number_in(line, 2)?,
+    };
+    Some((part, rest))
 }
 
 fn append(text: &mut Vec<u8>, part: Part) -> anyhow::Result<()> {
@@ -64,41 +62,32 @@ fn print_heading(rt: &HostRuntime, name: &[u8]) -> anyhow::Result<()> {
     Ok(())
 }
 
-fn print_answers(rt: &HostRuntime, text: &[u8]) -> anyhow::Result<()> {
-    let answers = answer_text(rt.alloc(), text, PLACES)?;
-    rt.stdout().write_all(&answers)?;
+// Prints the answers to a job whose text is whole, if there is one.
+fn print_answers(rt: &HostRuntime, job: Option<Vec<u8>>) -> anyhow::Result<()> {
+    if let Some(text) = job {
+        let answers = answer_text(rt.alloc(), &text, PLACES)?;
+        rt.stdout().write_all(&answers)?;
+    }
     Ok(())
 }
 
 fn run(rt: &HostRuntime) -> anyhow::Result<()> {
     let mut input = Vec::new(rt.alloc());
     rt.stdin().read_to_end(&mut input)?;
-    let mut text = Vec::new(rt.alloc());
-    let mut begun = false;
+    let mut job = None;
     let mut rest: &[u8] = &input;
-    // every part takes a byte at least
-    for _ in 0..input.len() {
-        if rest.is_empty() {
-            break;
-        }
-        let Some(part) = next_part(rest) else {
-            return Err(anyhow!("a stored job is not whole"));
-        };
+    while !rest.is_empty() {
+        let (part, after) = next_part(rest).context("a stored job is not whole")?;
         if !part.name.is_empty() {
-            if begun {
-                print_answers(rt, &text)?;
-            }
-            text.clear();
+            print_answers(rt, job.replace(Vec::new(rt.alloc())))?;
             print_heading(rt, part.name)?;
-            begun = true;
         }
-        append(&mut text, part)?;
-        rest = part.rest;
+        if let Some(text) = &mut job {
+            append(text, part)?;
+        }
+        rest = after;
     }
-    if begun {
-        print_answers(rt, &text)?;
-    }
-    Ok(())
+    print_answers(rt, job)
 }
 
 fn main(rt: HostRuntime) -> anyhow::Result<()> {

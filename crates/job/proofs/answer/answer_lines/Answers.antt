@@ -19,17 +19,17 @@ loop-number-preserved-then-is_empty c = λ end g.
 pub loop-number-preserved : goal.loop-number-preserved
 loop-number-preserved c = λ end g. c.loop-number.invariant end (one_more c.args.places idle idle c.loop-number.lines c.next.new.self c.in-Some.number c.in-Some.line.now _ _ _ end c.in-Some.ensures.steps (refused {s = idle} (some_bytes c.in-Some.line.now (sym c.is_empty.ensures ∙ c.if-is_empty.false)) c.in-Err.ensures.read) c.in_ok-say-in-Err.ensures g)
 
-pub returns-in-Ok-Open-Total-default : goal.returns-in-Ok-Open-Total-default
-returns-in-Ok-Open-Total-default c =
-    let o = c.in-Ok-Open-Total-default in
+pub returns-in-Total : goal.returns-in-Total
+returns-in-Total c =
+    let o = c.in-Ok-Open in
     on_ok_weaker c.answer_job.result (c.loop-number.invariant _)
-    (opens c.answer_job.result c.args.places c.loop-number.lines c.next.new.self c.in-Some.number c.in-Some.line.now Total o.terms _ _ _ c.in-Some.ensures.steps (o.field-0-is ∙ ap (λ kind. Open kind o.terms) o.field-0-0-is) o.ensures.read c.answer_job.ensures)
+    (opens c.answer_job.result c.args.places c.loop-number.lines c.next.new.self c.in-Some.number c.in-Some.line.now Total o.terms _ _ _ c.in-Some.ensures.steps (o.field-0-is ∙ ap (λ kind. Open kind o.terms) c.in-Total.is) o.ensures.read c.answer_job.ensures)
 
-pub returns-in-Ok-Open-Worst-default : goal.returns-in-Ok-Open-Worst-default
-returns-in-Ok-Open-Worst-default c =
-    let o = c.in-Ok-Open-Worst-default in
-    on_ok_weaker c.answer_job-in-Ok-Open-Worst-default.result (c.loop-number.invariant _)
-    (opens c.answer_job-in-Ok-Open-Worst-default.result c.args.places c.loop-number.lines c.next.new.self c.in-Some.number c.in-Some.line.now Worst o.terms _ _ _ c.in-Some.ensures.steps (o.field-0-is ∙ ap (λ kind. Open kind o.terms) o.field-0-0-is) o.ensures.read c.answer_job-in-Ok-Open-Worst-default.ensures)
+pub returns-in-Worst : goal.returns-in-Worst
+returns-in-Worst c =
+    let o = c.in-Ok-Open in
+    on_ok_weaker c.answer_job-in-Worst.result (c.loop-number.invariant _)
+    (opens c.answer_job-in-Worst.result c.args.places c.loop-number.lines c.next.new.self c.in-Some.number c.in-Some.line.now Worst o.terms _ _ _ c.in-Some.ensures.steps (o.field-0-is ∙ ap (λ kind. Open kind o.terms) c.in-Worst.is) o.ensures.read c.answer_job-in-Worst.ensures)
 
 pub returns : goal.returns
 returns c = c.loop-number.invariant _ (no_more c.args.places idle c.loop-number.lines _ c.in_default.ensures.steps.0)
