@@ -14,9 +14,7 @@ fn run(rt: &HostRuntime) -> anyhow::Result<()> {
     rt.stdin()
         .take(LONGEST_TEXT as u64 + 1)
         .read_to_end(&mut text)?;
-    let Ok(answers) = answer_text(rt.alloc(), &text, PLACES) else {
-        return Err(anyhow!("out of memory"));
-    };
+    let answers = answer_text(rt.alloc(), &text, PLACES).map_err(|_| anyhow!("out of memory"))?;
     rt.stdout().write_all(&answers)?;
     Ok(())
 }
