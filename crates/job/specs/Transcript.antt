@@ -1,5 +1,5 @@
 -- A whole job text and the answer lines to it. Assumes nothing.
-use Rattle.std.specs.Prelude.{◌≡◌, ℕ, ◌+◌, ◌*◌, ◌<◌, ◌≤◌, cond, ◌&&◌, List, [], ◌∷◌, ◌++◌, reverse, length, Some, None, Option, ◌==◌, ◌≢◌, nat_le, nat_lt}
+use Rattle.std.specs.Prelude.{◌≡◌, ℕ, ◌+◌, ◌*◌, ◌<◌, ◌≤◌, if◌then◌else◌, ◌&&◌, List, [], ◌∷◌, ◌++◌, reverse, length, Some, None, Option, ◌==◌, ◌≢◌, nat_le, nat_lt}
 use Rattle.faults.specs.Refusals.{Row, first}
 use Rattle.faults.specs.declared.Layer.TheVariants.{Planner}
 use Rattle.offers.specs.Offers.{weighted, extended, offers_below}
@@ -30,7 +30,7 @@ pub record Pricing (V : Type 0) : Type 0 where
 
 -- so many grades, and one charge for every change; no grade is over 15
 abbrev pub flat_rules : (grades charge : ℕ) → Rules
-flat_rules grades charge = record { grades = grades; charge = λ from to. cond (nat_lt from 16 && nat_lt to 16) (cond (from == to) 0 charge) 0 }
+flat_rules grades charge = record { grades = grades; charge = λ from to. if nat_lt from 16 && nat_lt to 16 then (if from == to then 0 else charge) else 0 }
 
 -- what the block of a line offers below the number of grades, under its extra bits and the weight above those
 abbrev pub offers_of : (weight extra : ℕ) → WrittenBlock → (grades : ℕ) → Block

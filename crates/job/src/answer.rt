@@ -28,7 +28,7 @@ fn answer_job<K: JobKind>(
     lines: NumberedLines,
     out: &mut Vec<u8>,
 ) -> Result<(), AllocError>
-    ensures { (charge : ℕ) → FlatCharge charge terms → OnOk result (Grown out.old.items out.new.items (AnswersTo places (busy K.name terms.grades terms.ceiling charge []) lines.entry)) }
+    ensures { (charge : ℕ) → FlatCharge charge terms → OnOk result (Grown out.old.items out.new.items (AnswersTo places (busy K.kind terms.grades terms.ceiling charge []) lines.entry)) }
 {
     let mut lent = vec![in heap; Place::<K>::unreached(); places]?;
     let mut job = OpenJob::open(terms, &mut lent);
@@ -42,8 +42,8 @@ fn answer_job<K: JobKind>(
 // Answers the lines of a text that is not too long.
 fn answer_lines(
     heap: Global,
-    places: usize,
     text: &[u8],
+    places: usize,
     out: &mut Vec<u8>,
 ) -> Result<(), AllocError>
     requires { length text.now ≤ 32768 }
@@ -68,29 +68,21 @@ fn answer_lines(
     Ok(())
 }
 
-// Answers a text: by its lines, or by one fault where it is too long, and then no line is read.
-fn answer_into(
-    heap: Global,
-    places: usize,
-    text: &[u8],
-    out: &mut Vec<u8>,
-) -> Result<(), AllocError>
-    ensures { OnOk result (Grown out.old.items out.new.items (Output places text.now)) }
-{
-    if text.len() > LONGEST_TEXT {
-        let fault = LineFault::Text(TextFault::TooLong);
-        return say(out, 0, Err(JobFault::Line(FieldFault { field: 0, fault })));
-    }
-    answer_lines(heap, places, text, out)
-}
-
 // The answer lines to a whole job text, planned in so many places. The only other outcome is want of memory. `once`: no text
 // has two outputs.
+#[tactic(auto, using(crate::proofs::Onlys::one_output))]
 pub fn answer_text(heap: Global, text: &[u8], places: usize) -> Result<Vec<u8>, AllocError>
     ensures output { IfOk result (λ out. Output places text.now out.items) }
     ensures once { OneOutput }
 {
     let mut out = Vec::new(heap);
-    answer_into(heap, places, text, &mut out)?;
+    if text.len() > LONGEST_TEXT {
+        // no line is read
+        let fault = LineFault::Text(TextFault::TooLong);
+        let found = JobFault::Line(FieldFault { field: 0, fault });
+        say(&mut out, 0, Err(found))?;
+        return Ok(out);
+    }
+    answer_lines(heap, text, places, &mut out)?;
     Ok(out)
 }

@@ -37,7 +37,7 @@ impl<'a, K: JobKind> OpenJob<'a, K> {
     pub(crate) fn open(terms: Terms, places: &'a mut [Place<K>]) -> Self
         ensures terms { result.terms ≡ terms }
         ensures lent { result.lent ≡ length places.old }
-        ensures blocks { result.blocks ≡ [] }
+        ensures none { result.blocks ≡ [] }
     {
         OpenJob {
             planner: Planner::open(terms, places),
@@ -46,7 +46,7 @@ impl<'a, K: JobKind> OpenJob<'a, K> {
 
     // Answers one line.
     pub(crate) fn respond(&mut self, line: &[u8]) -> Result<Reply, JobFault>
-        ensures { Stepped K.name self.old self.new line.now (said_by result) }
+        ensures { Stepped K.kind self.old self.new line.now (said_by result) }
     {
         if line.is_empty() {
             return Ok(Reply::Nothing);
@@ -59,7 +59,7 @@ impl<'a, K: JobKind> OpenJob<'a, K> {
     // Carries a command to an open job out.
     fn obey(&mut self, command: Command) -> Result<Reply, JobFault>
         requires { Asks command }
-        ensures { Done K.name self.old self.new command (said_by result) }
+        ensures { Done K.kind self.old self.new command (said_by result) }
     {
         match command {
             Command::Open { .. } => unreachable(),
@@ -81,21 +81,21 @@ impl<'a, K: JobKind> OpenJob<'a, K> {
         extra: Extra,
         block: Either<OwnBlock, GainBlock>,
     ) -> Result<Reply, JobFault>
-        ensures { Done K.name self.old self.new (Add weight extra block) (said_by result) }
+        ensures { Done K.kind self.old self.new (Add weight extra block) (said_by result) }
     {
         self.planner.add(&weight.over(extra.over(block)))?;
         Ok(Reply::Nothing)
     }
 
     fn take_back(&mut self) -> Result<Reply, JobFault>
-        ensures { Done K.name self.old self.new TakeBack (said_by result) }
+        ensures { Done K.kind self.old self.new TakeBack (said_by result) }
     {
         self.planner.take_back()?;
         Ok(Reply::Nothing)
     }
 
     fn plan(&self, budget: u32) -> Result<Reply, JobFault>
-        ensures { Done K.name self.now self.now (Plan budget) (said_by result) }
+        ensures { Done K.kind self.now self.now (Plan budget) (said_by result) }
     {
         let mut list = ArrayVec::from([0; 64]);
         list.truncate(self.planner.standing());
@@ -109,7 +109,7 @@ impl<'a, K: JobKind> OpenJob<'a, K> {
     }
 
     fn fewest(&self, bound: u32) -> Result<Reply, JobFault>
-        ensures { Done K.name self.now self.now (Fewest bound) (said_by result) }
+        ensures { Done K.kind self.now self.now (Fewest bound) (said_by result) }
     {
         let bits = self.planner.fewest(K::of(bound))?;
         Ok(Reply::Bits { bound, bits })

@@ -11,7 +11,7 @@ returns-in_err-add g c =
     let tables = c.self.inside.planner.tables in
     let e = c.in_err-add.ensures in
     let a = c.args in
-    up g.K.JobKind.name p g.met.K.JobKind.means _ _ (job_of tables _) (job_of c.add.new.self.tables _) c.self.view_is refl (record { terms = ap (λ t. t.terms) e.left.tables; lent = e.long }) (Add a.weight a.extra a.block) c.from_residual.result _ c.from_residual.ensures.1
+    up g.K.JobKind.kind p g.met.K.JobKind.means _ _ (job_of tables _) (job_of c.add.new.self.tables _) c.self.view_is refl (record { terms = ap (λ t. t.terms) e.left.tables; lent = e.long }) (Add a.weight a.extra a.block) c.from_residual.result _ c.from_residual.ensures.1
     (λ i h. rw e.left.tables (adds_not p tables _ a.weight a.extra a.block _ e.refused i h))
 
 pub returns : goal.returns
@@ -20,5 +20,5 @@ returns g c =
     let tables = c.self.inside.planner.tables in
     let e = c.in_ok-add.ensures in
     let a = c.args in
-    done g.K.JobKind.name p g.met.K.JobKind.means _ _ (job_of tables _) (job_of c.add.new.self.tables _) c.self.view_is refl (record { terms = e.left.terms; lent = e.long }) (Add a.weight a.extra a.block) nothing_said
+    done g.K.JobKind.kind p g.met.K.JobKind.means _ _ (job_of tables _) (job_of c.add.new.self.tables _) c.self.view_is refl (record { terms = e.left.terms; lent = e.long }) (Add a.weight a.extra a.block) nothing_said
     (λ i h. rw e.left.standing (adds p tables _ a.weight a.extra a.block _ (rw (c.over-2.ensures.layer, c.over-2.ensures.below, c.over.ensures.layer, c.over.ensures.below, either_means a.block) refl) e.refused i h))

@@ -19,7 +19,7 @@ returns-in_err-command g c =
     let terms = c.terms-terms.ensures ∙ ap (λ j. j.terms) c.self.view_is in
     record {
       kept = kept_all job;
-      step = λ charge flat. refused_up _ (state_of g.K.JobKind.name charge job) line c.from_residual.result _ c.from_residual.ensures.1 (sym c.is_empty.ensures ∙ c.if-is_empty.false) (subst (λ t. Read (Some t.grades) (line_fields line) (Err c.in_err-command.field-0.0)) terms c.in_err-command.ensures.read);
+      step = λ charge flat. refused_up _ (state_of g.K.JobKind.kind charge job) line c.from_residual.result _ c.from_residual.ensures.1 (sym c.is_empty.ensures ∙ c.if-is_empty.false) (subst (λ t. Read (Some t.grades) (line_fields line) (Err c.in_err-command.field-0.0)) terms c.in_err-command.ensures.read);
     }
 
 pub obey-requires : goal.obey-requires
@@ -29,4 +29,4 @@ pub returns : goal.returns
 returns g c =
     let job = c.args.self.now in
     let terms = c.terms-terms.ensures ∙ ap (λ j. j.terms) c.self.view_is in
-    stepped g.K.JobKind.name job c.obey.new.self c.args.line.now c.in_ok-command.command _ (subst (λ t. Commands (Some t.grades) (line_fields c.args.line.now) c.in_ok-command.command) terms c.in_ok-command.ensures.read) c.obey.ensures
+    stepped g.K.JobKind.kind job c.obey.new.self c.args.line.now c.in_ok-command.command _ (subst (λ t. Commands (Some t.grades) (line_fields c.args.line.now) c.in_ok-command.command) terms c.in_ok-command.ensures.read) c.obey.ensures

@@ -16,7 +16,7 @@ returns-in_err-take_back g c =
     let tables = c.self.inside.planner.tables in
     let e = c.in_err-take_back.ensures in
     let refused = ap (λ n. first (take_back_row n)) (length-reverse tables.blocks.items) ∙ sym e.refused in
-    up g.K.JobKind.name p g.met.K.JobKind.means _ _ (job_of tables _) (job_of c.take_back.new.self.tables _) c.self.view_is refl (record { terms = ap (λ t. t.terms) e.left; lent = ap length e.places }) TakeBack c.from_residual.result _ c.from_residual.ensures.1
+    up g.K.JobKind.kind p g.met.K.JobKind.means _ _ (job_of tables _) (job_of c.take_back.new.self.tables _) c.self.view_is refl (record { terms = ap (λ t. t.terms) e.left; lent = ap length e.places }) TakeBack c.from_residual.result _ c.from_residual.ensures.1
     (λ i h. rw (h, e.left) (not_taken_back refused))
 
 pub returns : goal.returns
@@ -25,5 +25,5 @@ returns g c =
     let tables = c.self.inside.planner.tables in
     let e = c.in_ok-take_back.ensures in
     let none = ap (λ n. first (take_back_row n)) (length-reverse tables.blocks.items) ∙ sym e.refused in
-    done g.K.JobKind.name p g.met.K.JobKind.means _ _ (job_of tables _) (job_of c.take_back.new.self.tables _) c.self.view_is refl (record { terms = e.left.terms; lent = ap length e.places }) TakeBack nothing_said
+    done g.K.JobKind.kind p g.met.K.JobKind.means _ _ (job_of tables _) (job_of c.take_back.new.self.tables _) c.self.view_is refl (record { terms = e.left.terms; lent = ap length e.places }) TakeBack nothing_said
     (λ i h. rw (h, ← ap without_newest e.left.standing) (taken_back none))
