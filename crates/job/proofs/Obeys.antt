@@ -43,6 +43,10 @@ use Rattle.job.specs.Transcript.{Pricing, offers_of, planner_fault, Does}
 use Rattle.job.specs.Transcript.Does.{added, not_added}
 use Rattle.job.specs.Steps.{Means, Job, Kept, Done}
 
+-- nothing changed
+pub kept_all : (job : Job) → Kept job job
+kept_all job = record { terms = refl; lent = refl }
+
 -- an open job with these tables, lent so many places
 abbrev pub job_of : Tables → ℕ → Job
 job_of tables lent = record { terms = tables.terms; lent = lent; blocks = standing_blocks tables }
@@ -61,13 +65,6 @@ module _ {V : Type 0} (kind : CostKind) (p : Pricing V) (means : Means kind p) (
   pub up : (asked : Command) (r : Result Reply JobFault) (found : PlannerFault) → IsErrAnd r (λ fault. fault ≡ Planner found) → ((i : Instruction) → Holds asked i → D i (planner_fault (planner_number found))) → Done kind before after asked (said_by r)
   up asked (Ok _) found e does = absurd e
   up asked (Err fault) found e does = subst (λ f. Done kind before after asked (said_by (Err f))) (sym e) (done asked (planner_fault (planner_number found)) does)
-
--- nothing changed
-pub kept_all : (job : Job) → Kept job job
-kept_all job = record { terms = refl; lent = refl }
-
-some_one : (m n : ℕ) → Some m ≡ Some n → m ≡ n
-some_one m n e = cc
 
 -- the grades of a choice are below the number of grades
 choice_low : {V : Type 0} {m : Model V} {rules : Rules} {blocks : List Block} {grades : List ℕ} {bits : ℕ} {cost : V} → Choice m rules blocks grades bits cost → All (λ grade. grade < rules.grades) (reverse grades)
@@ -97,8 +94,8 @@ module _ {T : Type 0} (terms : Terms) (standing budget entries : ℕ) (before af
   -- a refusal with room for all grades: over the ceiling, or nothing fits
   pub refused_by : {A : Type 0} (found : PlannerFault) → standing ≤ entries → Frame (Err found) → (terms.ceiling < budget → planner_number found ≡ 33 → A) → (budget ≤ terms.ceiling → planner_number found ≡ 35 → A) → A
   refused_by found long frame high fits = ⊎_elim
-      (λ h. high h (some_one _ _ (frame.refused_first 33 (over_row terms standing budget entries h))))
-      (λ low. fits low (⊎_elim (λ e. absurd (none-some _ (sym e))) (λ e. some_one _ _ e) (frame.else_nothing_fits (simp (le-ltb terms.ceiling budget low, le-ltb entries standing long) refl))))
+      (λ h. let e = frame.refused_first 33 (over_row terms standing budget entries h) in high h (cc))
+      (λ low. fits low (⊎_elim (λ e. absurd (none-some _ (sym e))) (λ e. cc) (frame.else_nothing_fits (simp (le-ltb terms.ceiling budget low, le-ltb entries standing long) refl))))
       (cases_lt terms.ceiling budget)
 
 -- what the source of a line's block means

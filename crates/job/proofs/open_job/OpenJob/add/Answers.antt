@@ -1,4 +1,5 @@
 use Rattle.std.proofs.Common.{refl, ap}
+use Rattle.offers.specs.Offers.{weighted, extended, offers_below}
 use Rattle.command.specs.declared.commands.Command.TheVariants.{Add}
 use Rattle.job.specs.Replies.{nothing_said}
 use Rattle.job.specs.Steps.{pricing}
@@ -21,4 +22,4 @@ returns g c =
     let e = c.in_ok-add.ensures in
     let a = c.args in
     done g.K.JobKind.kind p g.met.K.JobKind.means _ _ (job_of tables _) (job_of c.add.new.self.tables _) c.self.view_is refl (record { terms = e.left.terms; lent = e.long }) (Add a.weight a.extra a.block) nothing_said
-    (λ i h. rw e.left.standing (adds p tables _ a.weight a.extra a.block _ (rw (c.over-2.ensures.layer, c.over-2.ensures.below, c.over.ensures.layer, c.over.ensures.below, either_means a.block) refl) e.refused i h))
+    (λ i h. rw e.left.standing (adds p tables _ a.weight a.extra a.block _ (rw (c.over-2.ensures.layer, c.over-2.ensures.below, c.over.ensures.layer, c.over.ensures.below) (ap (λ means. offers_below (λ grade. weighted a.weight.times (extended a.extra.bits (means grade))) tables.terms.grades) (either_means a.block))) e.refused i h))
