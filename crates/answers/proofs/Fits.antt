@@ -4,7 +4,7 @@ use Rattle.std.proofs.lemmas.Fmt.{length-decimal-le}
 use Rattle.std.proofs.lemmas.List.{length-append}
 use Rattle.std.specs.List.{flat_map, AllByRecursion}
 use Rattle.faults.specs.Layers.{layer_name}
-use Rattle.faults.specs.declared.Layer.{Layer}
+use Rattle.faults.specs.declared.layer.Layer.{Layer}
 use Rattle.answers.specs.Texts.{after_comma, plan_text, bits_text, fault_text}
 use Rattle.answers.specs.Longest.{longest, EveryLineFits}
 

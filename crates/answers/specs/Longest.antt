@@ -1,7 +1,7 @@
 -- How long an answer line can be. Assumes nothing.
 use Rattle.std.specs.Prelude.{ℕ, ◌^◌, ◌<◌, ◌≤◌, List, length}
 use Rattle.std.specs.List.{AllByRecursion}
-use Rattle.faults.specs.declared.Layer.{Layer}
+use Rattle.faults.specs.declared.layer.Layer.{Layer}
 use Rattle.answers.specs.Texts.{plan_text, bits_text, fault_text}
 
 abbrev pub longest : ℕ

@@ -1,6 +1,6 @@
 // What is refused of an answer line, with its number and its layer.
 ghost use Rattle.std.specs.Prelude.{◌≡◌, Some};
-ghost use Rattle.faults.specs.Layers.{fault_text};
+ghost use Rattle.faults.specs.Layers.{shown_fault};
 ghost use Rattle.answers.specs.Faults.{answer_number, answer_layer};
 
 use faults::{Fault, Layer};
@@ -29,12 +29,10 @@ impl Fault for AnswerFault {
 
 // The layer and the number, `answer 40`.
 impl fmt::Display for AnswerFault {
-    ghost output = { λ fault. Some (fault_text (answer_layer fault) (answer_number fault)) };
+    ghost output = { λ fault. Some (shown_fault (answer_layer fault) (answer_number fault)) };
 
     fn fmt<W: fmt::Write>(&self, f: &mut fmt::Formatter<W>) -> fmt::Result {
-        let layer = self.layer();
-        let number = self.number();
-        write!(f, "{layer} {number}")
+        write!(f, "{} {}", self.layer(), self.number())
     }
 }
 

@@ -24,13 +24,11 @@ pub(crate) fn check_refused(
     room: &[u8],
     answer: Result<usize, AnswerFault>,
 ) -> Result<(), Fail> {
-    match answer {
-        Ok(_) => Err(Fail::new("a line was written")),
-        Err(fault) => {
-            assert_eq!(rt; fault.number(), 40);
-            check_dots(rt, room)
-        }
-    }
+    let Err(fault) = answer else {
+        return Err(Fail::new("a line was written"));
+    };
+    assert_eq!(rt; fault.number(), 40);
+    check_dots(rt, room)
 }
 
 // In rooms of every size below N, the text is written if the room is as long as it, and refused if not.

@@ -1,6 +1,6 @@
 // Why a line is refused: a fault of the text, of terms or of a block, and the field where it was found.
 ghost use Rattle.std.specs.Prelude.{◌≡◌, Some};
-ghost use Rattle.faults.specs.Layers.{fault_text};
+ghost use Rattle.faults.specs.Layers.{shown_fault};
 ghost use Rattle.command.specs.declared.fault.LineFault.TheVariants.{Text, Terms, Block};
 ghost use Rattle.command.specs.Faults.{fault_number, fault_layer};
 
@@ -43,7 +43,7 @@ impl Fault for LineFault {
 
 // The layer and the number, as `block 20`.
 impl fmt::Display for LineFault {
-    ghost output = { λ fault. Some (fault_text (fault_layer fault) (fault_number fault)) };
+    ghost output = { λ fault. Some (shown_fault (fault_layer fault) (fault_number fault)) };
 
     fn fmt<W: fmt::Write>(&self, f: &mut fmt::Formatter<W>) -> fmt::Result {
         write!(f, "{} {}", self.layer(), self.number())

@@ -42,22 +42,22 @@ pub fn gain_terms() -> Result<Terms, TermsFault>
     Ok(terms)
 }
 
-// A gain block and the layers on it.
+// A gain block and the layers piled on it.
 #[derive(Clone, Copy)]
-pub struct Layered {
+pub struct Pile {
     pub weight: Weight,
     pub extra: Extra,
     pub gain: GainBlock,
 }
 
-impl Layered {
-    fn new(weight: u32, extra: u32, samples: u32, gain: u32) -> Result<Layered, BlockFault>
+impl Pile {
+    fn new(weight: u32, extra: u32, samples: u32, gain: u32) -> Result<Pile, BlockFault>
         ensures { IfOk result (λ block. (block.weight.times ≡ weight) × (block.extra.bits ≡ extra) × (block.gain.samples ≡ samples) × (block.gain.gain ≡ gain)) }
     {
         let weight = Weight::new(weight)?;
         let extra = Extra::new(extra)?;
         let gain = GainBlock::new(samples, gain)?;
-        Ok(Layered {
+        Ok(Pile {
             weight,
             extra,
             gain,
@@ -73,9 +73,9 @@ impl Layered {
     }
 }
 
-pub(crate) fn gain_layers() -> Result<[Layered; 3], BlockFault> {
-    let first = Layered::new(2, 3, 8, 128)?;
-    let second = Layered::new(1, 0, 8, 1)?;
-    let third = Layered::new(255, 1023, 3, 1)?;
+pub(crate) fn gain_layers() -> Result<[Pile; 3], BlockFault> {
+    let first = Pile::new(2, 3, 8, 128)?;
+    let second = Pile::new(1, 0, 8, 1)?;
+    let third = Pile::new(255, 1023, 3, 1)?;
     Ok([first, second, third])
 }

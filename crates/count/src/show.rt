@@ -1,7 +1,7 @@
 // What the program prints. Every number comes from a call of the library.
-use crate::photographs::Layered;
+use crate::photographs::Pile;
 use costs::{Numbered, Total, Worst};
-use offers::Block;
+use offers::{Block, Offer};
 use std::io;
 use terms::{Terms, count_choice};
 
@@ -51,9 +51,10 @@ impl Photograph<'_> {
                 break;
             };
             let grade = grades[k];
-            match count_choice::<K>(self.terms, &self.blocks[..n], grades) {
-                Some((bits, cost)) => {
-                    let rate = rate_at(block, grade);
+            let counted = count_choice::<K>(self.terms, &self.blocks[..n], grades);
+            match counted.zip(offered(block, grade)) {
+                Some(((bits, cost), offer)) => {
+                    let rate = offer.rate();
                     let charge = self.terms.charge_into(before, grade);
                     let cost = cost.number();
                     println!(rt;
@@ -68,7 +69,7 @@ impl Photograph<'_> {
     }
 }
 
-pub(crate) fn show_layers(rt: &HostRuntime, layers: &[Layered]) -> io::Result<()> {
+pub(crate) fn show_layers(rt: &HostRuntime, layers: &[Pile]) -> io::Result<()> {
     for (k, block) in layers.iter().enumerate() {
         let n = k + 1;
         let weight = block.weight.times();
@@ -95,11 +96,7 @@ fn show_offers(rt: &HostRuntime, block: &Block) -> io::Result<()> {
     Ok(())
 }
 
-// The rate of a grade in a block, 0 where it is not offered.
-fn rate_at(block: &Block, grade: u8) -> u16 {
-    block
-        .get(grade as usize)
-        .copied()
-        .flatten()
-        .map_or(0, |offer| offer.rate())
+// What a block offers at a grade, if anything.
+fn offered(block: &Block, grade: u8) -> Option<Offer> {
+    block.get(grade as usize).copied().flatten()
 }

@@ -11,5 +11,5 @@ layer_name Planner = codes "planner"
 layer_name Answer = codes "answer"
 
 -- how a fault is shown: the word of its layer, a space and its number
-abbrev pub fault_text : Layer → ℕ → List ℕ
-fault_text layer number = layer_name layer ++ 32 ∷ decimal number
+abbrev pub shown_fault : Layer → ℕ → List ℕ
+shown_fault layer number = layer_name layer ++ 32 ∷ decimal number

@@ -5,7 +5,7 @@ ghost use Rattle.faults.specs.Refusals.{refusal};
 
 use crate::layer::Layer;
 
-// Why a call is refused. The layer and the number tell each fault from every other.
+// Why a call is refused: the part of the product that refuses, and the number of the case.
 pub trait Fault: Copy {
     // the layer and the number of a fault
     ghost layers: { Self → Part };

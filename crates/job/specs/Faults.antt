@@ -1,6 +1,6 @@
 -- The field, the layer and the number of a job's fault, and what is said by a reply. Assumes nothing.
 use Rattle.std.specs.Prelude.{ℕ, Ok, Err, Result}
-use Rattle.faults.specs.declared.Layer.{Layer}
+use Rattle.faults.specs.declared.layer.Layer.{Layer}
 use Rattle.planner.specs.Faults.{planner_number, planner_layer}
 use Rattle.command.specs.Faults.{fault_number, fault_layer}
 use Rattle.job.specs.declared.fault.JobFault.{JobFault}

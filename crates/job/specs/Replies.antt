@@ -1,6 +1,6 @@
 -- What is said to a line of a job text. Assumes nothing.
 use Rattle.std.specs.Prelude.{ℕ, List, []}
-use Rattle.faults.specs.declared.Layer.{Layer}
+use Rattle.faults.specs.declared.layer.Layer.{Layer}
 use Rattle.answers.specs.Texts.{plan_text, bits_text, fault_text}
 
 pub data Said : Type 0 where

@@ -1,7 +1,7 @@
 -- A whole job text and the answer lines to it. Assumes nothing.
 use Rattle.std.specs.Prelude.{◌≡◌, ℕ, ◌+◌, ◌*◌, ◌<◌, ◌≤◌, if◌then◌else◌, ◌&&◌, List, [], ◌∷◌, ◌++◌, reverse, length, Some, None, Option, ◌==◌, ◌≢◌, nat_le, nat_lt}
 use Rattle.faults.specs.Refusals.{Row, first}
-use Rattle.faults.specs.declared.Layer.TheVariants.{Planner}
+use Rattle.faults.specs.declared.layer.Layer.TheVariants.{Planner}
 use Rattle.offers.specs.Offers.{weighted, extended, offers_below}
 use Rattle.costs.specs.Model.{Model}
 use Rattle.costs.specs.Kinds.{total_model, total_of, worst_model, worst_of}

@@ -1,6 +1,6 @@
 // What is refused of a text as such, and the number of each case.
 ghost use Rattle.std.specs.Prelude.{Some};
-ghost use Rattle.faults.specs.Layers.{fault_text};
+ghost use Rattle.faults.specs.Layers.{shown_fault};
 ghost use Rattle.jobtext.specs.Faults.{text_number, text_layer};
 
 use faults::{Fault, Layer};
@@ -37,7 +37,7 @@ impl Fault for TextFault {
 
 // The layer and the number, as `text 1`.
 impl fmt::Display for TextFault {
-    ghost output = { λ fault. Some (fault_text (text_layer fault) (text_number fault)) };
+    ghost output = { λ fault. Some (shown_fault (text_layer fault) (text_number fault)) };
 
     fn fmt<W: fmt::Write>(&self, f: &mut fmt::Formatter<W>) -> fmt::Result {
         write!(f, "{} {}", self.layer(), self.number())

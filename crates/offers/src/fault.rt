@@ -1,6 +1,6 @@
 // What is refused of a block, and the number and the layer of each case.
 ghost use Rattle.std.specs.Prelude.{Some};
-ghost use Rattle.faults.specs.Layers.{fault_text};
+ghost use Rattle.faults.specs.Layers.{shown_fault};
 ghost use Rattle.offers.specs.Faults.{block_number, block_layer};
 
 use faults::{Fault, Layer};
@@ -34,7 +34,7 @@ impl Fault for BlockFault {
 
 // The layer and the number, as `block 20`.
 impl fmt::Display for BlockFault {
-    ghost output = { λ fault. Some (fault_text (block_layer fault) (block_number fault)) };
+    ghost output = { λ fault. Some (shown_fault (block_layer fault) (block_number fault)) };
 
     fn fmt<W: fmt::Write>(&self, f: &mut fmt::Formatter<W>) -> fmt::Result {
         write!(f, "{} {}", self.layer(), self.number())

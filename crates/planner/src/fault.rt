@@ -1,6 +1,6 @@
 // What the planner refuses, and the number and the layer of each case.
 ghost use Rattle.std.specs.Prelude.{Some};
-ghost use Rattle.faults.specs.Layers.{fault_text};
+ghost use Rattle.faults.specs.Layers.{shown_fault};
 ghost use Rattle.planner.specs.Faults.{planner_number, planner_layer};
 
 use faults::{Fault, Layer};
@@ -34,12 +34,10 @@ impl Fault for PlannerFault {
 
 // The layer and the number, as `planner 35`.
 impl fmt::Display for PlannerFault {
-    ghost output = { λ fault. Some (fault_text (planner_layer fault) (planner_number fault)) };
+    ghost output = { λ fault. Some (shown_fault (planner_layer fault) (planner_number fault)) };
 
     fn fmt<W: fmt::Write>(&self, f: &mut fmt::Formatter<W>) -> fmt::Result {
-        let layer = self.layer();
-        let number = self.number();
-        write!(f, "{layer} {number}")
+        write!(f, "{} {}", self.layer(), self.number())
     }
 }
 

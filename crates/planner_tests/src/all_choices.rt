@@ -34,13 +34,7 @@ fn row(number: usize) -> [usize; 4] {
 impl Blocks<'_> {
     // How many rows of grades there are for the blocks.
     fn rows(&self) -> usize {
-        match self.count {
-            0 => 1,
-            1 => 4,
-            2 => 16,
-            3 => 64,
-            _ => 256,
-        }
+        [1, 4, 16, 64, 256][self.count.min(4)]
     }
 
     // The bits and the cost of the grades; none where one of them is not offered.
@@ -89,8 +83,8 @@ impl Blocks<'_> {
         let mut grades = [0; 4];
         let mut grade = end.grade_of(self.count);
         let mut bits = end.bits;
-        for n in (0..self.count.min(4)).rev() {
-            grades[n] = grade;
+        for (n, entry) in grades[..self.count.min(4)].iter_mut().enumerate().rev() {
+            *entry = grade;
             let blocks = Blocks {
                 photograph: self.photograph,
                 count: n + 1,

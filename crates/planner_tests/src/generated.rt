@@ -34,14 +34,12 @@ fn plan_holds<K: Plain>(
             assert_eq!(rt; cost.number(), end.cost);
             assert_eq!(rt; grades, listed(blocks.count, blocks.way_back::<K>(end)));
             let chosen = [grades[0], grades[1], grades[2], grades[3]];
-            match blocks.count::<K>(chosen) {
-                Some(counted) => {
-                    assert_eq!(rt; counted.bits, bits);
-                    assert_eq!(rt; counted.cost, cost.number());
-                    Ok(())
-                }
-                None => Err(Fail::new("the plan is no choice")),
-            }
+            let counted = blocks
+                .count::<K>(chosen)
+                .ok_or(Fail::new("the plan is no choice"))?;
+            assert_eq!(rt; counted.bits, bits);
+            assert_eq!(rt; counted.cost, cost.number());
+            Ok(())
         }
         (Err(fault), None) => {
             assert_eq!(rt; fault.number(), 35);

@@ -134,8 +134,8 @@ impl Photograph {
     // A block as a source. It offers grades over the number of grades too, which a planner must not ask for.
     pub(crate) fn block(&self, n: usize) -> Result<OwnBlock, BlockFault> {
         let mut block = OwnBlock::new();
-        for grade in 0..4u8 {
-            if let Some((rate, distortion)) = self.written(n, grade as usize) {
+        for (grade, offer) in (0..4).zip(self.offers.get(n).copied().unwrap_or([None; 4])) {
+            if let Some((rate, distortion)) = offer {
                 block.set(grade, rate, distortion)?;
             }
         }

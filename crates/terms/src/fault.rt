@@ -1,6 +1,6 @@
 // What is refused of terms, and the number and the layer of each case.
 ghost use Rattle.std.specs.Prelude.{Some};
-ghost use Rattle.faults.specs.Layers.{fault_text};
+ghost use Rattle.faults.specs.Layers.{shown_fault};
 ghost use Rattle.terms.specs.Faults.{terms_number, terms_layer};
 
 use faults::{Fault, Layer};
@@ -31,7 +31,7 @@ impl Fault for TermsFault {
 
 // The layer and the number, as `terms 10`.
 impl fmt::Display for TermsFault {
-    ghost output = { λ fault. Some (fault_text (terms_layer fault) (terms_number fault)) };
+    ghost output = { λ fault. Some (shown_fault (terms_layer fault) (terms_number fault)) };
 
     fn fmt<W: fmt::Write>(&self, f: &mut fmt::Formatter<W>) -> fmt::Result {
         write!(f, "{} {}", self.layer(), self.number())
