@@ -1,6 +1,7 @@
 // The number and the layer of each fault, and the word for each layer.
 use faults::{Fault, Layer};
 use offers::BlockFault;
+use std::process::Abort;
 use std::test::Fail;
 use terms::TermsFault;
 
@@ -17,33 +18,43 @@ fn each_layer_has_its_word(rt: HostRuntime) {
     }
 }
 
-#[test]
-fn block_faults_have_numbers_20_to_26(rt: HostRuntime) {
-    for (fault, number) in [
-        (BlockFault::RateRange, 20),
-        (BlockFault::DistortionRange, 21),
-        (BlockFault::SamplesRange, 22),
-        (BlockFault::GainRange, 23),
-        (BlockFault::WeightRange, 24),
-        (BlockFault::ExtraRange, 25),
-        (BlockFault::GradeRange, 26),
-    ] {
-        assert_eq!(rt; fault.number(), number);
-        assert_eq!(rt; fault.layer(), Layer::Block);
+// Each fault has its number, and all have the layer.
+fn check_numbers<F: Fault>(rt: &impl Abort, layer: Layer, faults: &[(F, u32)]) {
+    for (fault, number) in faults {
+        assert_eq!(rt; fault.number(), *number);
+        assert_eq!(rt; fault.layer(), layer);
     }
 }
 
 #[test]
+fn block_faults_have_numbers_20_to_26(rt: HostRuntime) {
+    check_numbers(
+        &rt,
+        Layer::Block,
+        &[
+            (BlockFault::RateRange, 20),
+            (BlockFault::DistortionRange, 21),
+            (BlockFault::SamplesRange, 22),
+            (BlockFault::GainRange, 23),
+            (BlockFault::WeightRange, 24),
+            (BlockFault::ExtraRange, 25),
+            (BlockFault::GradeRange, 26),
+        ],
+    );
+}
+
+#[test]
 fn terms_faults_have_numbers_10_to_13(rt: HostRuntime) {
-    for (fault, number) in [
-        (TermsFault::GradesRange, 10),
-        (TermsFault::CeilingRange, 11),
-        (TermsFault::ChargeRange, 12),
-        (TermsFault::PairRange, 13),
-    ] {
-        assert_eq!(rt; fault.number(), number);
-        assert_eq!(rt; fault.layer(), Layer::Terms);
-    }
+    check_numbers(
+        &rt,
+        Layer::Terms,
+        &[
+            (TermsFault::GradesRange, 10),
+            (TermsFault::CeilingRange, 11),
+            (TermsFault::ChargeRange, 12),
+            (TermsFault::PairRange, 13),
+        ],
+    );
 }
 
 #[test]

@@ -1,6 +1,6 @@
 -- A whole job text and the answer lines to it. Assumes nothing.
-use Rattle.std.specs.Prelude.{◌≡◌, ℕ, ◌+◌, ◌*◌, ◌<◌, ◌≤◌, if◌then◌else◌, ◌&&◌, List, [], ◌∷◌, ◌++◌, reverse, length, Some, None, Option, ◌==◌, ◌≢◌, nat_le, nat_lt}
-use Rattle.faults.specs.Refusals.{Row, first}
+use Rattle.std.specs.Prelude.{◌≡◌, ℕ, ◌+◌, ◌<◌, ◌≤◌, if◌then◌else◌, ◌&&◌, List, [], ◌∷◌, ◌++◌, reverse, length, Some, None, Option, ◌==◌, ◌≢◌, nat_lt}
+use Rattle.faults.specs.Refusals.{first}
 use Rattle.faults.specs.declared.layer.Layer.TheVariants.{Planner}
 use Rattle.offers.specs.Offers.{weighted, extended, offers_below}
 use Rattle.costs.specs.Model.{Model}
@@ -10,7 +10,7 @@ use Rattle.costs.specs.declared.worst.Worst.{Worst}
 use Rattle.terms.specs.Rules.{Rules}
 use Rattle.terms.specs.Choice.{Block}
 use Rattle.trellis.specs.Named.{BestPlan, NothingFits}
-use Rattle.planner.specs.Faults.{take_back_row}
+use Rattle.planner.specs.Faults.{add_cases, take_back_row}
 use Rattle.planner.specs.Runs.{without_newest}
 use Rattle.planner.specs.Answers.{Fewest, NoneWithin}
 use Rattle.jobtext.specs.Faults.{text_number, text_layer}
@@ -35,11 +35,6 @@ flat_rules grades charge = record { grades = grades; charge = λ from to. if nat
 -- what the block of a line offers below the number of grades, under its extra bits and the weight above those
 abbrev pub offers_of : (weight extra : ℕ) → WrittenBlock → (grades : ℕ) → Block
 offers_of weight extra written grades = offers_below (λ grade. weighted weight (extended extra (block_means written grade))) grades
-
--- what the planner refuses of adding a block of these offers, under so many grades and that ceiling, where so many places are lent
--- and so many blocks stand: 64 stand; the places are too few
-abbrev pub add_cases : (grades ceiling lent standing : ℕ) → Block → Row
-add_cases grades ceiling lent standing offers = (nat_le 64 standing, 30) ∷ (nat_lt lent ((standing + 1) * (grades * (ceiling + 1))), 31) ∷ []
 
 -- a refusal of the planner's, which belongs to no field
 abbrev pub planner_fault : ℕ → Said

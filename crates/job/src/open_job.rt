@@ -21,15 +21,13 @@ pub(crate) struct OpenJob<'a, K: JobKind> {
 }
 
 impl<'a, K: JobKind> Model for OpenJob<'a, K> {
-    ghost use Rattle.std.specs.Prelude.{◌≤◌, length};
+    ghost use Rattle.std.specs.Prelude.{length};
     ghost use Rattle.planner.specs.Standing.{standing_blocks};
     ghost use Rattle.job.specs.Steps.{Job};
 
     ghost Value = { Job };
 
     ghost view = { λ job. record { terms = job.planner.tables.terms; lent = length job.planner.places.now; blocks = standing_blocks job.planner.tables } };
-
-    ghost invariant = { λ job. length (standing_blocks job.planner.tables) ≤ 64 };
 }
 
 impl<'a, K: JobKind> OpenJob<'a, K> {

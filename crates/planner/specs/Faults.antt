@@ -22,8 +22,11 @@ planner_layer _ = Planner
 
 -- adding a block of these offers where so many places are lent and so many blocks stand: 64 stand; the places are too few. No
 -- case looks at the offers yet.
+abbrev pub add_cases : (grades ceiling lent standing : ℕ) → Block → Row
+add_cases grades ceiling lent standing offers = (nat_le 64 standing, 30) ∷ (nat_lt lent ((standing + 1) * (grades * (ceiling + 1))), 31) ∷ []
+
 abbrev pub add_row : Terms → ℕ → ℕ → Block → Row
-add_row terms lent standing offers = (nat_le 64 standing, 30) ∷ (nat_lt lent ((standing + 1) * (terms.grades * (terms.ceiling + 1))), 31) ∷ []
+add_row terms = add_cases terms.grades terms.ceiling
 
 -- taking the last block back: none stands
 abbrev pub take_back_row : ℕ → Row

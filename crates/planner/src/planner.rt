@@ -124,7 +124,8 @@ impl<'a, K: Kind> Planner<'a, K> {
 
     // How many blocks stand.
     pub fn standing(&self) -> usize
-        ensures { result ≡ length (standing_blocks self.now.tables) }
+        ensures standing { result ≡ length (standing_blocks self.now.tables) }
+        ensures few { result ≤ 64 }
     {
         self.tables.blocks.len()
     }

@@ -34,9 +34,9 @@ fn plan_holds<K: Plain>(
             assert_eq!(rt; cost.number(), end.cost);
             assert_eq!(rt; grades, listed(blocks.count, blocks.way_back::<K>(end)));
             let chosen = [grades[0], grades[1], grades[2], grades[3]];
-            let counted = blocks
-                .count::<K>(chosen)
-                .ok_or(Fail::new("the plan is no choice"))?;
+            let Some(counted) = blocks.count::<K>(chosen) else {
+                return Err(Fail::new("the plan is no choice"));
+            };
             assert_eq!(rt; counted.bits, bits);
             assert_eq!(rt; counted.cost, cost.number());
             Ok(())

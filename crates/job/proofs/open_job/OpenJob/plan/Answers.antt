@@ -14,7 +14,7 @@ returns-in_err-bits g c =
     let tables = c.self.inside.planner.tables in
     let job = job_of tables (length c.self.inside.planner.places.now) in
     let e = c.in_err-bits.ensures in
-    let fits : block_count tables ≤ length c.deref_mut.result.now = omega (arith, c.self.invariant, c.standing.ensures, length-reverse tables.blocks.items, c.from-list.ensures.1, c.truncate.ensures.len, ap length c.deref_mut.ensures.value) in
+    let fits : block_count tables ≤ length c.deref_mut.result.now = omega (arith, c.standing.ensures.standing, c.standing.ensures.few, length-reverse tables.blocks.items, c.from-list.ensures.1, c.truncate.ensures.len, ap length c.deref_mut.ensures.value) in
     up _ _ g.met.K.JobKind.means _ _ job job c.self.view_is c.self.view_is (kept_all job) (Plan c.args.budget) c.from_residual.result _ c.from_residual.ensures.1
     (λ i h. rw h (refused_by tables.terms _ c.args.budget _ _ _ _ fits e.frame (λ over number. rw number (over_ceiling over)) (λ low number. rw number (nothing_fits low (e.answer number)))))
 
@@ -23,7 +23,7 @@ invariant_of-result g c =
     let tables = c.self.inside.planner.tables in
     let n = block_count tables in
     let grades = take n c.plan.new.grades in
-    let long : length c.truncate.new.self.items ≡ n = omega (arith, c.self.invariant, c.standing.ensures, length-reverse tables.blocks.items, c.from-list.ensures.1, c.truncate.ensures.len) in
+    let long : length c.truncate.new.self.items ≡ n = omega (arith, c.standing.ensures.standing, c.standing.ensures.few, length-reverse tables.blocks.items, c.from-list.ensures.1, c.truncate.ensures.len) in
     let same = list_written n _ c.truncate.new.self.items c.plan.new.grades long (omega (arith, long, ap length c.deref_mut.ensures.value, c.plan.auto.grades)) in
     let best = best_plan g.met.K.Kind.ordered g.met.K.Kind.alike_same (rules_of tables.terms) (standing_blocks tables) c.args.budget (reverse grades) c.in_ok-bits.bits c.in_ok-bits.cost c.in_ok-bits.ensures.answer in
     record { low = All-same (λ grade. grade < 100) _ grades same (plan_low tables.terms grades best) }
@@ -35,7 +35,7 @@ returns g c =
     let e = c.in_ok-bits.ensures in
     let n = block_count tables in
     let grades = take n c.plan.new.grades in
-    let long : length c.truncate.new.self.items ≡ n = omega (arith, c.self.invariant, c.standing.ensures, length-reverse tables.blocks.items, c.from-list.ensures.1, c.truncate.ensures.len) in
+    let long : length c.truncate.new.self.items ≡ n = omega (arith, c.standing.ensures.standing, c.standing.ensures.few, length-reverse tables.blocks.items, c.from-list.ensures.1, c.truncate.ensures.len) in
     let same = list_written n _ c.truncate.new.self.items c.plan.new.grades long (omega (arith, long, ap length c.deref_mut.ensures.value, c.plan.auto.grades)) ∙ sym (reverse-reverse grades) in
     let best = best_plan g.met.K.Kind.ordered g.met.K.Kind.alike_same (rules_of tables.terms) (standing_blocks tables) c.args.budget (reverse grades) c.in_ok-bits.bits c.in_ok-bits.cost e.answer in
     done _ _ g.met.K.JobKind.means _ _ job job c.self.view_is c.self.view_is (kept_all job) (Plan c.args.budget) _

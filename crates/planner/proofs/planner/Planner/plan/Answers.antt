@@ -32,7 +32,7 @@ pub returns-clause-frame : goal.returns-clause-frame
 returns-clause-frame g c =
     let tables = c.args.self.now.tables in
     let last : c.in-Some.newest + 1 ≡ block_count tables = MatchOption-at_some _ _ _ c.in-Some.is c.newest.ensures in
-    given _ (block_count tables) c.args.grades.now c.walk_back.new.grades _ (asked tables.terms (block_count tables) c.args.budget (length c.args.grades.now) (omega arith) (omega (arith, c.standing.ensures, length-reverse tables.blocks.items))) (λ k h. c.walk_back.ensures.later k (omega (arith, last, h)))
+    given _ (block_count tables) c.args.grades.now c.walk_back.new.grades _ (asked tables.terms (block_count tables) c.args.budget (length c.args.grades.now) (omega arith) (omega (arith, c.standing.ensures.standing, length-reverse tables.blocks.items))) (λ k h. c.walk_back.ensures.later k (omega (arith, last, h)))
 
 pub returns-clause-answer : goal.returns-clause-answer
 returns-clause-answer g c =
@@ -48,6 +48,6 @@ returns-clause-answer g c =
     let seen : Seen m t places (λ b k. (b ≤ c.args.budget) × (k < t.grades)) (Some end) = subst (λ u. Seen m u places (λ b k. (b ≤ c.args.budget) × (k < u.grades)) (Some end)) c.stage.ensures.terms (subst (λ r. Seen m c.stage.result.terms.now places (λ b k. (b ≤ c.args.budget) × (k < c.stage.result.terms.now.grades)) r) c.in-Some-best_end.is c.best_end.ensures) in
     let start : Start m rs (standing_blocks tables) c.args.budget end.grade end.bits end.cost = start_in g.met.K.Kind.ordered t places tables.blocks.items n last c.stage.ensures.holds c.args.budget end (omega arith) seen in
     let stand : blocks_to tables n ≡ standing_blocks tables = ap reverse (take_all (n + 1) tables.blocks.items (omega (arith, last))) in
-    let heads : reverse (take (n + 1) out) ≡ end.grade ∷ reverse (take n out) = head_on out n end.grade (omega (arith, last, c.standing.ensures, length-reverse tables.blocks.items)) c.walk_back.ensures.last in
+    let heads : reverse (take (n + 1) out) ≡ end.grade ∷ reverse (take n out) = head_on out n end.grade (omega (arith, last, c.standing.ensures.standing, length-reverse tables.blocks.items)) c.walk_back.ensures.last in
     let way : WayBack m rs (standing_blocks tables) (end.grade ∷ reverse (take n out)) end.bits end.cost = subst (λ bs. WayBack m rs bs (end.grade ∷ reverse (take n out)) end.bits end.cost) stand (subst (λ gs. WayBack m rs (blocks_to tables n) gs end.bits end.cost) heads c.walk_back.ensures.way) in
     subst (λ k. Named m rs c.args.budget (standing_blocks tables) (reverse (take k out)) end.bits end.cost) last (subst (λ gs. Named m rs c.args.budget (standing_blocks tables) gs end.bits end.cost) (sym heads) (some start way))
