@@ -2,8 +2,9 @@
 use Rattle.std.specs.Prelude.{◌≡◌, ℕ, zero, suc, ◌+◌, ◌-◌, ◌^◌, ◌<◌, ◌≤◌, Bool, true, ◌&&◌, List, length, nat_le, nat_lt, slice_index}
 use Rattle.std.proofs.Common.{subst, ⊎_elim, arith, pow_mono}
 use Rattle.std.proofs.Math.Nat.{pow-le-pow_left}
-use Rattle.std.proofs.lemmas.Bool.{and_parts, leb-true, leb-false, ltb-true, agree_below, agree_below_at, cases_lt, cond_both}
+use Rattle.std.proofs.lemmas.Bool.{and_parts, leb-true, leb-false, ltb-true, cases_lt, cond_both}
 use Rattle.offers.specs.Levels.{Least, EighthsTable, first_from, eighths}
+use Rattle.offers.specs.Table.{every, at}
 
 -- the larger power of 2 has the larger exponent
 larger : (q p x : ℕ) → 2 ^ q < x → x ≤ 2 ^ p → q < p
@@ -14,27 +15,27 @@ abbrev none_less : ℕ → ℕ → Bool
 none_less n zero = true
 none_less n (suc p) = nat_lt (2 ^ p) (n ^ 8)
 
-abbrev pub right : ℕ → ℕ → Bool
-right n q = nat_le (n ^ 8) (2 ^ q) && none_less n q
+abbrev least_test : ℕ → ℕ → Bool
+least_test n q = nat_le (n ^ 8) (2 ^ q) && none_less n q
 
--- the entries of 1 to so many levels pass the test
-abbrev pub all_right : List ℕ → ℕ → Bool
-all_right table = agree_below (λ k. right (suc k) (slice_index table k)) (λ _. true)
+-- the same test of the entry at the index k, which is that of k + 1 levels
+abbrev pub right : ℕ → ℕ → Bool
+right k q = least_test (suc k) q
 
 no_less : (n q : ℕ) → none_less n q ≡ true → (p : ℕ) → n ^ 8 ≤ 2 ^ p → q ≤ p
 no_less n zero passed p h = omega arith
 no_less n (suc q) passed p h = larger q p (n ^ 8) (ltb-true (2 ^ q) (n ^ 8) passed) h
 
-least_from : (n q : ℕ) → right n q ≡ true → Least n q
+least_from : (n q : ℕ) → least_test n q ≡ true → Least n q
 least_from n q passed =
     let both = and_parts (nat_le (n ^ 8) (2 ^ q)) (none_less n q) passed in
     (leb-true (n ^ 8) (2 ^ q) both.0, no_less n q both.1)
 
 -- a table whose entries all pass the test has the smallest power at each number of levels
-table_least : (table : List ℕ) → all_right table 255 ≡ true → (n : ℕ) → 1 ≤ n → n ≤ 255 → Least n (slice_index table (n - 1))
+table_least : (table : List ℕ) → every right 0 table ≡ true → (n : ℕ) → 1 ≤ n → n ≤ length table → Least n (slice_index table (n - 1))
 table_least table passed n some few =
     let e : suc (n - 1) ≡ n = omega arith in
-    subst (λ (m : ℕ). Least m (slice_index table (n - 1))) e (least_from (suc (n - 1)) (slice_index table (n - 1)) (agree_below_at (λ k. right (suc k) (slice_index table k)) (λ _. true) 255 (n - 1) passed (omega arith)))
+    subst (λ (m : ℕ). Least m (slice_index table (n - 1))) e (least_from (suc (n - 1)) (slice_index table (n - 1)) (at right table passed (n - 1) (omega arith)))
 
 -- at most one number is the smallest
 one_least : (n p q : ℕ) → Least n p → Least n q → p ≡ q
@@ -57,9 +58,9 @@ pub eighths_few : (n : ℕ) → n ≤ 256 → eighths n ≤ 64
 eighths_few n h = (eighths_least n h).1 64 (pow-le-pow_left h 8)
 
 -- a table of 255 entries that pass the test is the table of eighths
-pub table_right : (table : List ℕ) → length table ≡ 255 → all_right table 255 ≡ true → EighthsTable table
+pub table_right : (table : List ℕ) → length table ≡ 255 → every right 0 table ≡ true → EighthsTable table
 table_right table whole passed =
-    let least = table_least table passed in
+    let least : (n : ℕ) → 1 ≤ n → n ≤ 255 → Least n (slice_index table (n - 1)) = λ n some few. table_least table passed n some (omega arith) in
     record {
       whole = whole;
       least = least;

@@ -4,4 +4,5 @@ pub mod Own
 pub mod Levels
 pub mod Gain
 pub mod InRange
+pub mod Table
 pub mod Eighths
