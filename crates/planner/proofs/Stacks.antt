@@ -2,13 +2,15 @@
 use Rattle.std.proofs.Common.{◌≡◌, ℕ, zero, suc, ◌+◌, ◌-◌, ◌*◌, ◌<◌, ◌≤◌, List, [], ◌∷◌, ◌++◌, reverse, length, take, drop, refl, sym, ap, ◌∙◌, subst, ⊎_elim, add-one, suc-mul, arith, slice_index, slice_index_or}
 use Rattle.std.proofs.lemmas.Bool.{cases_lt}
 use Rattle.std.proofs.lemmas.List.{take_more, get_or-drop, take-append-le, take_all, length-append, length-reverse, length-take-le}
-use mathlib.Core.List.{reverse-append}
+use mathlib.Core.List.{reverse-append, reverse-reverse}
 use Rattle.costs.specs.Model.{Model}
 use Rattle.terms.specs.declared.terms.Terms.{Terms}
 use Rattle.terms.specs.Choice.{Block}
 use Rattle.trellis.specs.declared.place.Place.{Place}
 use Rattle.trellis.specs.Places.{unreached}
 use Rattle.planner.specs.Layout.{Outside, Column, Columns, size_of}
+use Rattle.planner.specs.Standing.{Sound, Dropped}
+use Rattle.planner.specs.declared.tables.Tables.{Tables}
 use Rattle.planner.proofs.Rows.{row_below, column_same}
 
 -- a list up to one place more, newest first
@@ -50,6 +52,13 @@ newest_column m terms (x ∷ xs) block old new base base_is stack first above =
 -- one block less
 pub stacked_less : {V : Type 0} (m : Model V) (terms : Terms) (xs : List Block) (block : Block) (places : List (Place V)) → Stacked m terms (xs ++ block ∷ []) places → Stacked m terms xs places
 stacked_less m terms xs block places stack n h = subst (λ bs. Column m terms bs (drop (n * size_of terms) places)) (ap reverse (take-append-le (n + 1) xs (block ∷ []) (omega (arith, h)))) (stack n (omega (arith, h, length-append xs (block ∷ []))))
+
+-- the same, where the newest block was taken back
+pub sound_less : {V : Type 0} (m : Model V) (old new : Tables) (dropped : Dropped old new) (places : List (Place V)) → Sound m old places → Sound m new places
+sound_less m old new dropped places sound =
+    let xs = new.blocks.items in
+    let all : old.blocks.items ≡ xs ++ dropped.block ∷ [] = sym (reverse-reverse old.blocks.items) ∙ ap reverse dropped.standing ∙ reverse-append (dropped.block ∷ []) (reverse xs) ∙ ap (λ ys. ys ++ dropped.block ∷ []) (reverse-reverse xs) in
+    stacked_less m new.terms xs dropped.block places (subst (λ ys. Stacked m new.terms ys places) all (subst (λ t. Stacked m t old.blocks.items places) (sym dropped.terms) sound))
 
 -- the blocks of a stack, one by one
 pub columns_of : {V : Type 0} (m : Model V) (terms : Terms) (xs : List Block) (places : List (Place V)) → Stacked m terms xs places → (n : ℕ) → n ≤ length xs → Columns m terms (reverse (take n xs)) places

@@ -22,11 +22,13 @@ blocks_to tables n = reverse (take (n + 1) tables.blocks.items)
 abbrev pub Sound : {V : Type 0} → Model V → Tables → List (Place V) → Type 0
 Sound m tables places = (n : ℕ) → n < block_count tables → Column m tables.terms (blocks_to tables n) (drop (n * size_of tables.terms) places)
 
--- a block of these offers was added: it is the newest to stand, and only its own places were written
+-- a block of these offers was added: it is the newest to stand, only its own places were written, and the places hold what they
+-- should if they did before
 pub record Added {V : Type 0} (m : Model V) (offers : Block) (old new : Tables) (before after : List (Place V)) : Type 0 where
   pub terms : new.terms ≡ old.terms
   pub standing : standing_blocks new ≡ offers ∷ standing_blocks old
   pub written : Outside m (block_count old * size_of old.terms) (size_of old.terms) before after
+  pub sound : Sound m old before → Sound m new after
 
 -- the newest block was taken back
 pub record Dropped (old new : Tables) : Type 0 where

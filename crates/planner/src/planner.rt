@@ -20,13 +20,14 @@ use trellis::Place;
 
 mod walk;
 
-// A planner over lent places. It holds no cost beside them. The places of the standing blocks hold what they should, whatever
-// was called before. The clauses `same` say that the slice is still the caller's own, so that the caller knows what its memory
-// holds when the planner ends.
+// A planner over lent places. It holds no cost beside them. At most 64 blocks stand, and their places hold what they should,
+// whatever was called before. The clauses `same` say that the slice is still the caller's own, so that the caller knows what its
+// memory holds when the planner ends.
 #[derive(Drop)]
 pub struct Planner<'a, K: Kind> {
     tables: Tables,
     places: &'a mut [Place<K>],
+    ghost few: { block_count tables ≤ 64 },
     ghost fits: { block_count tables * size_of tables.terms ≤ length places.now },
     ghost sound: { Sound K.Kind.model tables places.now },
 }

@@ -23,9 +23,10 @@ impl<'a, K: Kind> Stage<'a, K> {
     pub(crate) fn first_within(&self, bound: K) -> Option<u32>
         ensures { FirstWithin K.Kind.model self.now.terms.now self.now.places.now bound result }
     {
+        let grades = self.terms.grades();
         let mut fewest = None;
         'seek: for bits in 0..width(self.terms) {
-            for grade in 0..self.terms.grades() {
+            for grade in 0..grades {
                 let place = self.at(grade, bits);
                 if place.reached && place.cost.no_dearer(bound) {
                     fewest = Some(bits as u32);
@@ -41,9 +42,10 @@ impl<'a, K: Kind> Stage<'a, K> {
         requires { budget ≤ self.now.terms.now.ceiling }
         ensures { Seen K.Kind.model self.now.terms.now self.now.places.now (λ b g. (b ≤ budget) × (g < self.now.terms.now.grades)) result }
     {
+        let grades = self.terms.grades();
         let mut best = None;
         for bits in 0..budget + 1 {
-            for grade in 0..self.terms.grades() {
+            for grade in 0..grades {
                 if let Some(cost) = self.at(grade, bits).kept() {
                     best = better(best, End { bits, grade, cost });
                 }

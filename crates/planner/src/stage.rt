@@ -45,6 +45,7 @@ impl<'a, K: Kind> Stage<'a, K> {
         requires bits { bits ≤ self.now.terms.now.ceiling }
         ensures { result ≡ place_in K.Kind.model self.now.terms.now self.now.places.now grade bits }
     {
-        self.row(grade)[bits]
+        let places = self.places;
+        places[usize::from(grade) * width(self.terms) + bits]
     }
 }

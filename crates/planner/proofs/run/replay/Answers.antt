@@ -18,7 +18,7 @@ next_call xs i x y h is e = drop_more xs i x h ∙ ap (λ v. v ∷ drop (i + 1) 
 pub loop-call-init : goal.loop-call-init
 loop-call-init g c =
     let p = c.open-planner.result in
-    (refl, opened g.K.Kind.model g.S.Source.means p.tables p.places.now c.args.calls.now c.open-planner.ensures.standing)
+    (refl, opened g.K.Kind.model g.S.Source.means p.tables p.places.now c.args.calls.now c.open-planner.ensures.standing p.sound)
 
 pub loop-call-preserved : goal.loop-call-preserved
 loop-call-preserved g c =
@@ -69,7 +69,7 @@ returns g c =
     let ends : standing_blocks p.tables ≡ after_calls means terms (length start) calls [] = subst (λ cs. after_calls means terms (length start) cs (standing_blocks p.tables) ≡ after_calls means terms (length start) calls []) done st.ends in
     let Whole : Terms → List (Place g.row.K.Denot) → Type 0 = λ t ps. Promise m t (after_calls means t (length ps) calls []) (most_standing means t (length ps) calls []) ps p.places.now c.args.budget c.args.bound c.args.grades.now c.plan-plan.new.grades c.plan-plan.result c.fewest-fewest.result in
     let whole : Whole terms start =
-    promised_at g.met.K.Kind.ordered g.met.K.Kind.alike_same p.tables terms _ _ start p.places.now c.args.budget c.args.bound c.args.grades.now c.plan-plan.new.grades c.plan-plan.result c.fewest-fewest.result st.terms_are ends c.plan-plan.ensures.frame c.plan-plan.ensures.answer c.fewest-fewest.ensures.refused c.fewest-fewest.ensures.answer p.sound st.others in
+    promised_at g.met.K.Kind.ordered g.met.K.Kind.alike_same p.tables terms _ _ start p.places.now c.args.budget c.args.bound c.args.grades.now c.plan-plan.new.grades c.plan-plan.result c.fewest-fewest.result st.terms_are ends c.plan-plan.ensures.frame c.plan-plan.ensures.answer c.fewest-fewest.ensures.refused c.fewest-fewest.ensures.answer st.sound st.others in
     let all : Whole c.args.terms c.args.places.now = subst (λ ps. Whole c.args.terms ps) opened.places (subst (λ t. Whole t start) opened.terms whole) in
     let same = sym (c.loop-call.invariant.0 ∙ opened.same) in
     search rules

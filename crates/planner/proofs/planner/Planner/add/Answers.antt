@@ -19,6 +19,7 @@ invariant_of-self g c =
     let grown : length c.push.new.self.items * size_of t ≡ length items * size_of t + size_of t = ap (λ xs. length xs * size_of t) c.push.ensures.items ∙ ap (λ n. n * size_of t) long ∙ add-mul (length items) 1 (size_of t) ∙ ap (λ x. length items * size_of t + x) (one-mul (size_of t)) in
     let same_long : length new ≡ length self.places.now = (let l : length new ≡ length c.take-places.result.now = omega arith in l ∙ ap length same) in
     record {
+      few = grind (arith, c.push.ensures.len);
       fits = subst (λ k. k ≤ length new) (sym grown) (omega (arith, same_long, c.size-size.ensures.is, base_is, c.if-base-size.false));
       sound = subst (λ xs. Stacked m t xs new) (sym c.push.ensures.items) (stacked m t items block c.take-places.result.now new (c.standing.result * c.size-size.result) base_is c.write_block.ensures.outside stack (newest_column m t items block c.take-places.result.now new (c.standing.result * c.size-size.result) base_is stack c.write_block.ensures.first c.write_block.ensures.above));
     }
