@@ -25,11 +25,14 @@ pub(crate) fn put_number<S: Sink, N: Integer>(out: &mut S, number: N)
     out.put(Buffer::new().format(number).as_bytes());
 }
 
-// Puts a comma and a number for each of them.
+// Puts a comma and a number for each of them, and looks at no more of them once the sink is full.
 pub(crate) fn put_numbers<S: Sink, N: Integer>(out: &mut S, numbers: &[N])
     ensures { S.takes out.old (flat_map (λ number. 44 ∷ N.text number) numbers.now) out.new }
 {
     for number in numbers {
+        if out.is_full() {
+            return;
+        }
         put_number(out, *number);
     }
 }

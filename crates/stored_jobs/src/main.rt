@@ -62,32 +62,36 @@ fn print_heading(rt: &HostRuntime, name: &[u8]) -> anyhow::Result<()> {
     Ok(())
 }
 
-// Prints the answers to a job whose text is whole, if there is one.
-fn print_answers(rt: &HostRuntime, job: Option<Vec<u8>>) -> anyhow::Result<()> {
-    if let Some(text) = job {
-        let answers = answer_text(rt.alloc(), &text, PLACES)?;
-        rt.stdout().write_all(&answers)?;
-    }
+fn print_answers(rt: &HostRuntime, text: &[u8]) -> anyhow::Result<()> {
+    let answers = answer_text(rt.alloc(), text, PLACES)?;
+    rt.stdout().write_all(&answers)?;
     Ok(())
 }
 
 fn run(rt: &HostRuntime) -> anyhow::Result<()> {
     let mut input = Vec::new(rt.alloc());
     rt.stdin().read_to_end(&mut input)?;
-    let mut job = None;
+    // parts before the first name are gathered too, and belong to no job
+    let mut text = Vec::new(rt.alloc());
+    let mut begun = false;
     let mut rest: &[u8] = &input;
     while !rest.is_empty() {
         let (part, after) = next_part(rest).context("a stored job is not whole")?;
         if !part.name.is_empty() {
-            print_answers(rt, job.replace(Vec::new(rt.alloc())))?;
+            if begun {
+                print_answers(rt, &text)?;
+            }
+            text.clear();
             print_heading(rt, part.name)?;
+            begun = true;
         }
-        if let Some(text) = &mut job {
-            append(text, part)?;
-        }
+        append(&mut text, part)?;
         rest = after;
     }
-    print_answers(rt, job)
+    if begun {
+        print_answers(rt, &text)?;
+    }
+    Ok(())
 }
 
 fn main(rt: HostRuntime) -> anyhow::Result<()> {
