@@ -49,6 +49,9 @@ module _ (f : List ℕ) where
   pub none_digit : (i : ℕ) → i < length f → (IsInRange 48 57 (get_or f i 0) → ⊥) → NoNumber f
   none_digit i at out = unlike (λ n h. out (digit_at f i h.digits at))
 
+  pub none_long : 10 < length f → NoNumber f
+  none_long long = unlike (λ n h. omega (arith, long, h.few))
+
   pub none_lead : (get_or f 0 0 ≡ 48) × (1 < length f) → NoNumber f
   none_lead lead = unlike (λ n h. omega (arith, h.lead lead.0))
 

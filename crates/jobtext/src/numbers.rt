@@ -23,7 +23,7 @@ pub fn number(field: &[u8]) -> Option<u32>
     ensures value { MatchOption result (NoNumber field.now) (λ n. Writes field.now n) }
     ensures form { WritesForm }
 {
-    if leads_with_zero(field) || !is_digits(field) {
+    if field.len() > 10 || leads_with_zero(field) || !is_digits(field) {
         return None;
     }
     u32::from_str_radix(str::from_utf8(field).ok()?, 10).ok()

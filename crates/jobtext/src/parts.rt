@@ -16,7 +16,7 @@ pub(crate) fn cut(bytes: &[u8], separator: u8) -> (&[u8], Option<&[u8]>)
 pub fn field_count(line: &[u8]) -> usize
     ensures { result ≡ length (line_fields line.now) }
 {
-    line.split(|byte| *byte == b',').count()
+    line.iter().filter(|byte| **byte == b',').count() + 1
 }
 
 // The field of a line at an index, counted from 0.

@@ -30,7 +30,7 @@ fn token_of(field: &[u8]) -> Token<'_>
 pub fn token_at(line: &[u8], index: usize) -> Token<'_>
     ensures { TokenOf (slice_index_or (line_fields line.now) index []) result }
 {
-    token_of(field(line, index).unwrap_or(&[]))
+    token_of(field(line, index).unwrap_or(&line[..0]))
 }
 
 fn letter_of(field: &[u8]) -> Option<char>

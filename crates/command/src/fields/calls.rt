@@ -89,11 +89,11 @@ impl<'a> Field<'a> {
     pub(crate) fn rate(self) -> Result<Option<u32>, FieldFault>
         ensures { ReadAs a_rate self.entry (λ rate. MatchOption rate (bytes_in self.entry ≡ dash) (NumberIn rate_row (bytes_in self.entry))) result }
     {
-        if self.is_dash() {
-            return Ok(None);
+        match self.token() {
+            Token::Number { value, .. } => Ok(Some(self.here(checked_rate(value))?)),
+            Token::Dash(_) => Ok(None),
+            Token::Other(_) => self.here(Err(TextFault::WrongForm)),
         }
-        let rate = self.read(|n| checked_rate(n))?;
-        Ok(Some(rate))
     }
 
     pub(crate) fn cost_kind(self) -> Result<CostKind, FieldFault>

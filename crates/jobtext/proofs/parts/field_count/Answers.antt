@@ -1,9 +1,12 @@
-use Rattle.std.proofs.Common.{eqb, rules}
-use Rattle.std.proofs.lemmas.Iterator.Consumers.{count_from_yields_List}
-use Rattle.std.proofs.lemmas.Iterator.Splits.{YieldsList-from_slice_split}
+use Rattle.std.proofs.Common.{eqb, arith, rules, tests}
+use Rattle.std.proofs.lemmas.Iterator.{YieldsList-from_slice}
+use Rattle.std.proofs.lemmas.Iterator.Consumers.{count_from_yields_List, YieldsList-from_filter}
+use Rattle.std.proofs.lemmas.List.Sums.{length-filter}
+use Rattle.std.proofs.lemmas.List.Splits.{length-slice_split}
 use Rattle.jobtext.proofs.parts.field_count.Goals as goal
 
 pub returns : goal.returns
 returns c =
-    count_from_yields_List _ _ c.count.ensures.ran
-    (YieldsList-from_slice_split _ (λ b. eqb b 44) c.args.line.now c.split.ensures.rest c.split.ensures.done c.split.ensures.closure (λ x b q k. search rules))
+    let line = c.args.line.now in
+    let commas = count_from_yields_List _ _ c.count.ensures.ran (YieldsList-from_filter _ (λ b. eqb b 44) (YieldsList-from_slice line cc) c.filter.ensures.closure (λ x b q k. search (rules, tests))) in
+    omega (arith, commas, length-filter (λ b. eqb b 44) line, length-slice_split (λ b. eqb b 44) line)
