@@ -28,7 +28,9 @@ fn relax_row<K: Kind>(row: &mut [Place<K>], earlier: &[Place<K>], step: usize, d
     ensures row { (b : ℕ) → b + step < length row.old → slice_index_or row.new (b + step) (unreached K.Kind.model) ≡ relaxed K.Kind.model distortion (slice_index_or row.old (b + step) (unreached K.Kind.model)) (slice_index_or earlier.now b (unreached K.Kind.model)) }
 {
     for bits in step..row.len() {
-        row[bits] = row[bits].relaxed(earlier[bits - step], distortion);
+        let source = earlier[bits - step];
+        let target = row[bits];
+        row[bits] = target.relaxed(source, distortion);
     }
 }
 

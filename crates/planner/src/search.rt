@@ -46,7 +46,9 @@ impl<'a, K: Kind> Stage<'a, K> {
         let mut best = None;
         for bits in 0..budget + 1 {
             for grade in 0..grades {
-                if let Some(cost) = self.at(grade, bits).kept() {
+                let place = self.at(grade, bits);
+                if place.reached {
+                    let cost = place.cost;
                     best = better(best, End { bits, grade, cost });
                 }
             }

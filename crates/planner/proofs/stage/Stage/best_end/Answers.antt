@@ -1,11 +1,11 @@
-use Rattle.std.proofs.Common.{◌≡◌, ℕ, ◌+◌, ◌<◌, ◌≤◌, ◌⊎◌, Option, Some, None, if◌then◌else◌, sym, ap, ◌∙◌, subst, inl, inr, ⊎_elim, arith}
+use Rattle.std.proofs.Common.{◌≡◌, ℕ, ◌+◌, ◌<◌, ◌≤◌, ◌⊎◌, Option, Some, None, if◌then◌else◌, sym, ◌∙◌, subst, inl, inr, ⊎_elim, arith, rules}
 use Rattle.planner.specs.declared.end.End.{End}
 use Rattle.planner.specs.Layout.{place_in}
 use Rattle.std.proofs.lemmas.Bool.{cases_lt}
 use Rattle.planner.specs.Search.{Seen, better}
 use Rattle.planner.proofs.Sightings.{More, seen_same, seen_some, seen_none}
 use Rattle.planner.proofs.stage.Stage.best_end.Goals as goal
-use Rattle.planner.proofs.stage.Stage.best_end.Goals.{in-Some, in_default}
+use Rattle.planner.proofs.stage.Stage.best_end.Goals.{then-place, else-place}
 
 -- the places seen before a turn of the inner loop
 abbrev Part : ℕ → ℕ → ℕ → ℕ → ℕ → Type 0
@@ -35,12 +35,13 @@ loop-grade-preserved g c =
     let best = c.loop-grade.best in
     let order = part_order t.grades b k in
     let all : (new : Option (End g.row.K.Denot)) → Seen m t places (More g.met.K.Kind.ordered t places (Part t.grades b k) b k order) new → Seen m t places (Part t.grades b (k + 1)) new = λ new. seen_same m t places _ (Part t.grades b (k + 1)) new (part_in t.grades b k) (part_out t.grades b k) in
-    elim c.match-kept.branch [
-      | in-Some w ↦
-          (let cost = w.in-Some.cost in
-          let kept : Some cost ≡ (if place.reached then Some place.cost else None) = sym w.in-Some.is ∙ c.kept.ensures ∙ ap (λ p. if p.reached then Some p.cost else None) c.at.ensures in
+    let is : c.at-place.result ≡ place = c.at-place.ensures in
+    elim c.if-place.branch [
+      | then-place w ↦
+          (let cost = c.at-place.result.cost in
+          let kept : Some cost ≡ (if place.reached then Some place.cost else None) = search (rules, is, w.if-place.true) in
           subst (λ new. Seen m t places (Part t.grades b (k + 1)) new) (sym (w.best-is ∙ w.better-best.ensures)) (all (better m best (record { bits = b; grade = k; cost = cost })) (seen_some g.met.K.Kind.ordered t places (Part t.grades b k) b k order best cost kept c.loop-grade.invariant)))
-      | in_default w ↦
-          (let kept : None ≡ (if place.reached then Some place.cost else None) = sym w.in_default.is ∙ c.kept.ensures ∙ ap (λ p. if p.reached then Some p.cost else None) c.at.ensures in
+      | else-place w ↦
+          (let kept : None ≡ (if place.reached then Some place.cost else None) = search (rules, is, w.if-place.false) in
           subst (λ new. Seen m t places (Part t.grades b (k + 1)) new) (sym w.best-is) (all best (seen_none g.met.K.Kind.ordered t places (Part t.grades b k) b k order best kept c.loop-grade.invariant)))
     ]
