@@ -1,15 +1,14 @@
 -- What is a number's text, and what is none. Assumes nothing.
-use Rattle.std.proofs.Common.{◌≡◌, ℕ, ◌^◌, ◌<◌, ◌≤◌, true, false, ◌&&◌, List, [], ◌∷◌, length, get_or, Ok, Err, Result, decimal, sym, refl, ap, ◌∙◌, subst, ⊎_elim, arith, MatchOption}
-use borrow.Author.Tests.{both_ways}
-use Rattle.std.specs.Char.{is_ascii_digit}
+use Rattle.std.proofs.Common.{◌≡◌, ℕ, ◌+◌, ◌-◌, ◌*◌, ◌^◌, ◌<◌, ◌≤◌, List, length, get_or, take, Ok, Err, Result, decimal, sym, refl, ap, ◌∙◌, subst, ⊎_elim, arith, le-ltb, lt-ltb, MatchOption}
+use native.Mathlib.Nat.{pow-le-pow_right}
+use Rattle.std.specs.Char.{digit_value}
 use Rattle.std.specs.Int.{IsInRange}
-use Rattle.std.specs.List.{list_all}
 use Rattle.std.specs.Result.{OkIff, result_ok}
-use Rattle.std.specs.Str.{IsUtf8, all_ascii_digits}
-use Rattle.std.specs.Str.Parse.{AllDigits, digits_value, ParsesUnsigned}
-use Rattle.std.proofs.lemmas.Str.{IsUtf8-from_ascii}
-use Rattle.std.proofs.lemmas.Str.Parse.{IsNumeralModel, numerals_by_value, tells_digits, tells_all_ascii_digits, digit_at, parse_digits}
-use Rattle.std.proofs.lemmas.Fmt.{IsAscii-from_digits, decimal_is_IsNumeral, decimal_nonempty, length-decimal-le, first_decimal, decimal-digits_value, decimal_digit}
+use Rattle.std.specs.Str.Parse.{AllDigits, digits_value}
+use Rattle.std.proofs.lemmas.List.{take_all, length-take}
+use Rattle.std.proofs.lemmas.Int.Digits.{digits_value-lt, digits_value_more, digits_more}
+use Rattle.std.proofs.lemmas.Str.Parse.{IsNumeralModel, numerals_by_value, tells_digits, digit_at}
+use Rattle.std.proofs.lemmas.Fmt.{decimal_is_IsNumeral, decimal_nonempty, length-decimal-le, first_decimal, decimal-digits_value, decimal_digit}
 use Rattle.std.proofs.str.Laws.{order}
 use Rattle.jobtext.specs.Numbers.{Writes, NoNumber, Form, WritesForm}
 
@@ -37,9 +36,32 @@ written f n digits some lead is small = (small, sym (decimal-digits_value own f 
 pub writes_form : WritesForm
 writes_form f n = (form f n, λ h. let most : n ≤ 4294967295 = h.most in written f n h.digits h.some h.lead h.is (omega arith))
 
-same_test : (f : List ℕ) → list_all is_ascii_digit f ≡ all_ascii_digits f
-same_test [] = refl
-same_test (b ∷ f) = ap (λ t. is_ascii_digit b && t) (same_test f)
+digit_is : (b : ℕ) → 48 ≤ b → b ≤ 57 → digit_value b ≡ b - 48
+digit_is b low high = rw (le-ltb b 48 low) (rw (lt-ltb b 58 (omega arith)) refl)
+
+-- the first i bytes of f are digits, and write v
+pub record Sofar (f : List ℕ) (i v : ℕ) : Type 0 where
+  pub digits : AllDigits 10 (take i f)
+  pub is : v ≡ digits_value 10 (take i f)
+
+pub sofar_none : (f : List ℕ) → Sofar f 0 0
+sofar_none f = record { digits = tt; is = refl }
+
+pub sofar_more : (f : List ℕ) (i v : ℕ) → Sofar f i v → i < length f → 48 ≤ get_or f i 0 → get_or f i 0 ≤ 57 → Sofar f (i + 1) (v * 10 + (get_or f i 0 - 48))
+sofar_more f i v h lt low high =
+    let d = digit_is (get_or f i 0) low high in
+    record {
+      digits = digits_more 10 f i lt h.digits (omega (arith, d));
+      is = ap (λ n. n * 10 + (get_or f i 0 - 48)) h.is ∙ ap (λ n. digits_value 10 (take i f) * 10 + n) (sym d) ∙ sym (digits_value_more 10 f i lt);
+    }
+
+pub sofar_small : (f : List ℕ) (i v : ℕ) → Sofar f i v → length f ≤ 10 → v < 10 ^ 10
+sofar_small f i v h short =
+    let most : 10 ^ length (take i f) ≤ 10 ^ 10 = pow-le-pow_right (omega arith) {i = length (take i f)} {j = 10} (omega (arith, length-take i f)) in
+    omega (arith, h.is, digits_value-lt 10 (take i f) h.digits, most)
+
+pub sofar_all : (f : List ℕ) (i v : ℕ) → Sofar f i v → length f ≤ i → AllDigits 10 f × (v ≡ digits_value 10 f)
+sofar_all f i v h all = let e = take_all i f all in (subst (AllDigits 10) e h.digits, h.is ∙ ap (digits_value 10) e)
 
 module _ (f : List ℕ) where
   -- no number has such a text
@@ -55,20 +77,10 @@ module _ (f : List ℕ) where
   pub none_lead : (get_or f 0 0 ≡ 48) × (1 < length f) → NoNumber f
   none_lead lead = unlike (λ n h. omega (arith, h.lead lead.0))
 
-  pub none_other : list_all is_ascii_digit f ≡ false → NoNumber f
-  none_other e = unlike (λ n h. both_ways (all_ascii_digits f) (sym (same_test f) ∙ e) ((numerals_by_value (λ ds. all_ascii_digits ds ≡ true) tells_all_ascii_digits).from f h.digits))
+  pub none_empty : length f ≡ 0 → NoNumber f
+  none_empty e = unlike (λ n h. omega (arith, e, h.some))
 
-  module _ (all : list_all is_ascii_digit f ≡ true) where
-    digits : AllDigits 10 f
-    digits = (numerals_by_value (λ ds. all_ascii_digits ds ≡ true) tells_all_ascii_digits).to f (sym (same_test f) ∙ all)
-
-    pub is_text : IsUtf8 f
-    is_text = IsUtf8-from_ascii f (IsAscii-from_digits f digits)
-
-    -- what `parse` gives
-    told : {E : Type 0} (r : Result ℕ E) → (get_or f 0 0 ≡ 48 → length f ≤ 1) → OkIff r ((0 < length f) × (digits_value 10 f < 2 ^ 32)) (digits_value 10 f) → MatchOption (result_ok r) (NoNumber f) (Writes f)
-    told (Ok n) lead h = written f n digits h.0.0 (λ e. omega (arith, h.0.0, lead e)) (sym h.1) (omega (arith, h.0.1, h.1))
-    told (Err e) lead h = unlike (λ n g. h (g.some, omega (arith, g.is, g.most)))
-
-    pub parsed : {E : Type 0} (r : Result ℕ E) → (get_or f 0 0 ≡ 48 → length f ≤ 1) → ParsesUnsigned 32 10 f r → MatchOption (result_ok r) (NoNumber f) (Writes f)
-    parsed r lead parses = told r lead (parse_digits own 32 f r parses digits)
+  -- what is made of the value of all bytes
+  pub told : {E : Type 0} (i v : ℕ) (r : Result ℕ E) → Sofar f i v → length f ≤ i → 0 < length f → (get_or f 0 0 ≡ 48 → length f ≤ 1) → OkIff r (v < 2 ^ 32) v → MatchOption (result_ok r) (NoNumber f) (Writes f)
+  told i v (Ok n) so all some lead h = let done = sofar_all f i v so all in written f n done.0 some (λ e. omega (arith, some, lead e)) (sym done.1 ∙ sym h.1) (omega (arith, h.0, h.1))
+  told i v (Err e) so all some lead h = let done = sofar_all f i v so all in unlike (λ n g. h (omega (arith, done.1, g.is, g.most)))
