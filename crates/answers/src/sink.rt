@@ -54,7 +54,7 @@ impl Sink for Left {
     }
 }
 
-// A room whose first `count` bytes are written. It is known to be long enough when it is written to.
+// A room whose first `count` bytes are written. A text that does not fit is not written; none is met, as a line is measured first.
 #[derive(Drop)]
 pub(crate) struct Written<'a> {
     pub(crate) room: &'a mut [u8],
