@@ -54,7 +54,8 @@ impl Sink for Left {
     }
 }
 
-// A room whose first `count` bytes are written. A text that does not fit is not written; none is met, as a line is measured first.
+// A room whose first `count` bytes are written. A text that does not fit is not written; none is met, as a line is measured
+// first.
 #[derive(Drop)]
 pub(crate) struct Written<'a> {
     pub(crate) room: &'a mut [u8],
