@@ -16,7 +16,13 @@ pub(crate) fn cut(bytes: &[u8], separator: u8) -> (&[u8], Option<&[u8]>)
 pub fn field_count(line: &[u8]) -> usize
     ensures { result ≡ length (line_fields line.now) }
 {
-    line.iter().filter(|byte| **byte == b',').count() + 1
+    let mut commas = 0;
+    for byte in line {
+        if *byte == b',' {
+            commas += 1;
+        }
+    }
+    commas + 1
 }
 
 // The field of a line at an index, counted from 0.

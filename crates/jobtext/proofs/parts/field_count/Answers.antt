@@ -1,12 +1,25 @@
-use Rattle.std.proofs.Common.{eqb, arith, rules, tests}
-use Rattle.std.proofs.lemmas.Iterator.{YieldsList-from_slice}
-use Rattle.std.proofs.lemmas.Iterator.Consumers.{count_from_yields_List, YieldsList-from_filter}
-use Rattle.std.proofs.lemmas.List.Sums.{length-filter}
+use Rattle.std.proofs.Common.{◌≡◌, ℕ, ◌+◌, ◌<◌, List, cond, eqb, eq-eqb, ne_eqb, length, get_or, drop, ap, arith}
+use Rattle.std.specs.List.{count_by}
+use Rattle.std.proofs.lemmas.List.{drop_all}
+use Rattle.std.proofs.lemmas.List.Sums.{sum_by-drop_more}
 use Rattle.std.proofs.lemmas.List.Splits.{length-slice_split}
 use Rattle.jobtext.proofs.parts.field_count.Goals as goal
+use Rattle.jobtext.proofs.parts.field_count.Goals.{then-byte-eq44, else-byte-eq44}
+
+-- the commas from a byte on, by whether it is one
+commas_at : (line : List ℕ) (i : ℕ) → i < length line → count_by (λ b. eqb b 44) (drop i line) ≡ cond (eqb (get_or line i 0) 44) 1 0 + count_by (λ b. eqb b 44) (drop (i + 1) line)
+commas_at line i h = sum_by-drop_more (λ b. cond (eqb b 44) 1 0) line i 0 h
+
+pub loop-byte-preserved : goal.loop-byte-preserved
+loop-byte-preserved c =
+    let line = c.args.line.now in
+    let i = c.loop-byte.byte-index in
+    let rest = count_by (λ b. eqb b 44) (drop (i + 1) line) in
+    let here = commas_at line i (omega arith) in
+    elim c.if-byte-eq44.branch [
+      | then-byte-eq44 w ↦ (omega (arith, w.commas-is), omega (arith, w.commas-is, here, ap (λ t. cond t 1 0 + rest) (eq-eqb (get_or line i 0) 44 w.if-byte-eq44.true)))
+      | else-byte-eq44 w ↦ (omega (arith, w.commas-is), omega (arith, w.commas-is, here, ap (λ t. cond t 1 0 + rest) (ne_eqb (get_or line i 0) 44 w.if-byte-eq44.false)))
+    ]
 
 pub returns : goal.returns
-returns c =
-    let line = c.args.line.now in
-    let commas = count_from_yields_List _ _ c.count.ensures.ran (YieldsList-from_filter _ (λ b. eqb b 44) (YieldsList-from_slice line cc) c.filter.ensures.closure (λ x b q k. search (rules, tests))) in
-    omega (arith, commas, length-filter (λ b. eqb b 44) line, length-slice_split (λ b. eqb b 44) line)
+returns c = omega (arith, length-slice_split (λ b. eqb b 44) c.args.line.now, ap (count_by (λ b. eqb b 44)) (drop_all c.loop-byte.byte-index c.args.line.now (omega arith)))
