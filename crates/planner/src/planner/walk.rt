@@ -47,8 +47,7 @@ impl<'a, K: Kind> Planner<'a, K> {
         ensures kept { Kept K.Kind.model (rules_of self.now.tables.terms) (blocks_to self.now.tables (n - 1)) result.grade result.bits result.cost }
         ensures back { (gs : List ℕ) → WayBack K.Kind.model (rules_of self.now.tables.terms) (blocks_to self.now.tables (n - 1)) (result.grade ∷ gs) result.bits result.cost → WayBack K.Kind.model (rules_of self.now.tables.terms) (blocks_to self.now.tables n) (end.grade ∷ result.grade ∷ gs) end.bits end.cost }
     {
-        let block = self.tables.blocks[n];
-        let offer = block[usize::from(end.grade)].unwrap();
+        let offer = self.tables.blocks[n][usize::from(end.grade)].unwrap();
         let prior = self.stage(n - 1);
         let grade = prior.grade_before(end, offer).unwrap();
         let bits = end.bits - bits_into(&self.tables.terms, Some(grade), end.grade, offer);
